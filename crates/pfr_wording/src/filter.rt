@@ -36,8 +36,8 @@ fn append_way(
     Ok(())
 }
 
-/// Appends the letters of flags.
-fn append_letters(text: &mut Vec<u8>, flags: FlagSet) -> Result<(), AllocError> {
+/// Appends the letters of flags, from the lowest bit on.
+pub fn append_letters(text: &mut Vec<u8>, flags: FlagSet) -> Result<(), AllocError> {
     let mut rest = flags.0;
     for letter in LETTERS {
         if rest % 2 == 1 {

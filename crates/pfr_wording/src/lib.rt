@@ -9,12 +9,14 @@
 mod again;
 mod criteria;
 mod filter;
+mod logged;
 mod names;
 mod same;
 mod told;
 mod translation;
 mod worded;
 
+pub use filter::append_letters;
 pub use names::table_names;
-pub use told::{RuleTold, Rules, RulesTold, Untold};
+pub use told::{RuleTold, Rules, RulesTold, Said, Untold};
 pub use worded::{Worded, in_words};

@@ -1,11 +1,13 @@
 //! Rules as they are told: by their words, and by the lines of their file.
 use crate::again::translation_lines;
+use crate::logged::logged_lines;
 use crate::names::table_names;
 use crate::worded::{Worded, in_words};
 use pfr_conf::{ConfError, ConfErrorKind};
 use pfr_listing::{Counted, RuleCounts};
 use pfr_prepare::Prepared;
 use pfr_ruleset::Ruleset;
+use pfr_shadows::Shadow;
 use pfr_texts::append_number;
 use std::alloc::{AllocError, Global};
 
@@ -16,6 +18,8 @@ pub struct RuleTold<'a> {
     pub words: &'a [u8],
     /// The line of the ruleset's file on which it stands, from 1.
     pub line: usize,
+    /// Whether it says `log`. No translation rule is said to.
+    pub is_logged: bool,
 }
 
 /// The rules of a ruleset as they are told, by their numbers.
@@ -33,6 +37,8 @@ pub struct Rules {
     filter: Vec<usize>,
     /// The same of translation rules.
     translations: Vec<usize>,
+    /// Whether filter rules say `log`, by their numbers.
+    logged: Vec<bool>,
     /// How many lines of the words define tables.
     tables: usize,
 }
@@ -72,6 +78,20 @@ fn filter_lines(
         lines.push(text.line_of(rule.line))?;
     }
     Ok(lines)
+}
+
+/// Whether the filter rules of a ruleset say `log`, by their numbers.
+fn logged_rules(
+    alloc: Global,
+    text: &Prepared,
+    ruleset: &Ruleset,
+) -> Result<Vec<bool>, AllocError> {
+    let lines = logged_lines(alloc, text.text.as_slice())?;
+    let mut logged = Vec::new(alloc);
+    for rule in ruleset.filter.rules() {
+        logged.push(lines.get(rule.line).copied().unwrap_or(false))?;
+    }
+    Ok(logged)
 }
 
 /// The lines of the file for lines of the text that was made of it.
@@ -134,20 +154,26 @@ fn without_blanks(line: &[u8]) -> &[u8] {
     line
 }
 
-/// The rules that stand on these lines of the words, and on these lines of the file.
+/// The rules that stand on these lines of the words, and on these lines of the file, and whether they say `log`.
 fn told_at<'a>(
     alloc: Global,
     words: &[&'a [u8]],
     places: &[usize],
     lines: &[usize],
+    logged: &[bool],
 ) -> Result<Vec<RuleTold<'a>>, AllocError> {
     let mut rules = Vec::new(alloc);
     for (place, line) in places.iter().zip(lines) {
+        let is_logged = logged.get(rules.len()).copied().unwrap_or(false);
         let words = match words.get(place.saturating_sub(1)) {
             Some(words) => without_blanks(words),
             None => &[],
         };
-        rules.push(RuleTold { words, line: *line })?;
+        rules.push(RuleTold {
+            words,
+            line: *line,
+            is_logged,
+        })?;
     }
     Ok(rules)
 }
@@ -176,54 +202,103 @@ fn may_count(words: &[u8]) -> bool {
     !without_blanks(words).starts_with(b"no ")
 }
 
-/// Appends what a run counted of a rule of these words.
-fn append_counted(text: &mut Vec<u8>, words: &[u8], counted: &Counted) -> Result<(), AllocError> {
-    text.extend_from_slice(b"  # ")?;
+/// What is remarked of a rule.
+#[derive(Clone, Copy)]
+struct Remarks<'a> {
+    /// What a run counted of it.
+    counted: Option<&'a Counted>,
+    /// The number of the filter rule by which it is shadowed.
+    by: Option<usize>,
+}
+
+/// Appends what a run counted of a rule.
+fn append_counted(text: &mut Vec<u8>, counted: &Counted) -> Result<(), AllocError> {
     append_number(text, counted.evaluations)?;
     text.extend_from_slice(b" evaluations, ")?;
     append_number(text, counted.packets)?;
     text.extend_from_slice(b" packets, ")?;
     append_number(text, counted.bytes)?;
-    text.extend_from_slice(b" bytes")?;
-    if counted.packets == 0 && may_count(words) {
-        text.extend_from_slice(b": counts no packet")?;
-    }
-    Ok(())
+    text.extend_from_slice(b" bytes")
 }
 
-/// Appends a rule as it is printed, with what a run counted of it.
+/// Appends `shadowed by @N` behind what parts it from what stands before.
+fn append_shadow(text: &mut Vec<u8>, parting: &[u8], by: Option<usize>) -> Result<(), AllocError> {
+    match by {
+        Some(by) => {
+            text.extend_from_slice(parting)?;
+            text.extend_from_slice(b"shadowed by @")?;
+            append_number(text, by as u64)
+        }
+        None => Ok(()),
+    }
+}
+
+/// Appends what is remarked of a rule of these words.
+fn append_remarks(
+    text: &mut Vec<u8>,
+    words: &[u8],
+    remarks: Remarks<'_>,
+) -> Result<(), AllocError> {
+    let Some(counted) = remarks.counted else {
+        return append_shadow(text, b"  # ", remarks.by);
+    };
+    text.extend_from_slice(b"  # ")?;
+    append_counted(text, counted)?;
+    if counted.packets == 0 && may_count(words) {
+        text.extend_from_slice(b": counts no packet")?;
+        append_shadow(text, b", ", remarks.by)
+    } else {
+        append_shadow(text, b": ", remarks.by)
+    }
+}
+
+/// Appends a rule as it is printed, with what is remarked of it.
 fn append_rule(
     text: &mut Vec<u8>,
     lines: &[usize],
     number: usize,
     words: &[u8],
-    counts: Option<&[Counted]>,
+    remarks: Remarks<'_>,
 ) -> Result<(), AllocError> {
     append_place(text, lines, number)?;
     append_words(text, words)?;
-    if let Some(counts) = counts {
-        if let Some(counted) = counts.get(number) {
-            append_counted(text, words, counted)?;
-        }
-    }
+    append_remarks(text, words, remarks)?;
     text.extend_from_slice(b"\n")
 }
 
-/// The lines of the file on which the rules of a ruleset stand.
+/// What a run counted of the rule with a number, if that is given.
+fn counted_at(counts: Option<&[Counted]>, number: usize) -> Option<&Counted> {
+    counts?.get(number)
+}
+
+/// The number of the rule by which the one with a number is shadowed, if it is the first of these, which is then passed.
+fn shadow_at(shadows: &mut &[Shadow], number: usize) -> Option<usize> {
+    let (shadow, behind) = shadows.split_first()?;
+    if shadow.rule != number {
+        return None;
+    }
+    *shadows = behind;
+    Some(shadow.by)
+}
+
+/// The lines of the file on which the rules of a ruleset stand, and which filter rules say `log`.
 #[derive(Drop)]
 struct FileLines {
     filter: Vec<usize>,
     translations: Vec<usize>,
+    logged: Vec<bool>,
 }
 
-/// The lines of the file on which the rules of a ruleset stand that this text means.
+/// What the file says of the rules of a ruleset that this text means.
 fn file_lines(alloc: Global, text: &Prepared, ruleset: &Ruleset) -> Result<FileLines, AllocError> {
     let mut translations = translation_lines(alloc, ruleset)?;
     lines_in_file(text, &mut translations);
     let filter = filter_lines(alloc, text, ruleset)?;
+    let logged = logged_rules(alloc, text, ruleset)?;
     Ok(FileLines {
         filter,
         translations,
+        logged,
     })
 }
 
@@ -238,17 +313,29 @@ fn with_lines(
             worded,
             filter: lines.filter,
             translations: lines.translations,
+            logged: lines.logged,
             tables,
         }),
         Err(_) => Err(Untold::Memory),
     }
 }
 
+/// What is said of rules beside their words.
+#[derive(Clone, Copy)]
+pub struct Said<'a> {
+    /// What a run counted of them.
+    pub counts: Option<&'a RuleCounts>,
+    /// The filter rules that are shadowed, by their numbers.
+    pub shadows: &'a [Shadow],
+}
+
 /// How many rules were printed.
 #[derive(Clone, Copy)]
-struct Printed {
+struct Printed<'a> {
     filter: usize,
     translations: usize,
+    /// The shadowed rules that weren't.
+    shadows: &'a [Shadow],
 }
 
 impl Rules {
@@ -269,12 +356,14 @@ impl Rules {
             words.as_slice(),
             self.worded.filter.as_slice(),
             self.filter.as_slice(),
+            self.logged.as_slice(),
         )?;
         let translations = told_at(
             alloc,
             words.as_slice(),
             self.worded.translations.as_slice(),
             self.translations.as_slice(),
+            &[],
         )?;
         Ok(RulesTold {
             filter,
@@ -294,7 +383,7 @@ impl Rules {
         number: usize,
         line: &[u8],
         counts: Option<&RuleCounts>,
-        printed: &mut Printed,
+        printed: &mut Printed<'_>,
     ) -> Result<(), AllocError> {
         if is_at(
             self.worded.translations.as_slice(),
@@ -304,13 +393,21 @@ impl Rules {
             let counts = counts.map(|counts| counts.translations.as_slice());
             let rule = printed.translations;
             printed.translations = rule.saturating_add(1);
-            return append_rule(text, self.translations.as_slice(), rule, line, counts);
+            let remarks = Remarks {
+                counted: counted_at(counts, rule),
+                by: None,
+            };
+            return append_rule(text, self.translations.as_slice(), rule, line, remarks);
         }
         if is_at(self.worded.filter.as_slice(), printed.filter, number) {
             let counts = counts.map(|counts| counts.filter.as_slice());
             let rule = printed.filter;
             printed.filter = rule.saturating_add(1);
-            return append_rule(text, self.filter.as_slice(), rule, line, counts);
+            let remarks = Remarks {
+                counted: counted_at(counts, rule),
+                by: shadow_at(&mut printed.shadows, rule),
+            };
+            return append_rule(text, self.filter.as_slice(), rule, line, remarks);
         }
         if number > self.tables && !line.is_empty() {
             text.extend_from_slice(line)?;
@@ -319,20 +416,21 @@ impl Rules {
         Ok(())
     }
 
-    /// Appends a line for each rule and for each end of an anchor, with what a run counted of the rules, if that is given.
+    /// Appends a line for each rule and for each end of an anchor, with what is said of the rules.
     pub fn append(
         &self,
         alloc: Global,
         text: &mut Vec<u8>,
-        counts: Option<&RuleCounts>,
+        said: Said<'_>,
     ) -> Result<(), AllocError> {
         let words = lines_of_text(alloc, self.worded.text.as_slice())?;
         let mut printed = Printed {
             filter: 0,
             translations: 0,
+            shadows: said.shadows,
         };
         for (place, line) in words.iter().enumerate() {
-            self.append_line(text, place + 1, line, counts, &mut printed)?;
+            self.append_line(text, place + 1, line, said.counts, &mut printed)?;
         }
         Ok(())
     }
