@@ -4,4 +4,5 @@ pub mod Outputs
 pub mod Peers
 pub mod Places
 pub mod Seeds
+pub mod Shows
 pub mod Taps

@@ -2,7 +2,10 @@
 use crate::also::{AlsoForm, also_arg};
 use crate::around::surrounding_args;
 use crate::mac::mac_arg;
-use crate::values::{ADDRESS, BATCH, FILE, INSIDE, INTERFACE, PEER, SEED, TAP, WORKERS};
+use crate::values::{
+    ADDRESS, BATCH, FILE, FORMAT, HOST, INSIDE, INTERFACE, NUMBER, PEER, SEED, TAP, VERDICTS,
+    WORKERS,
+};
 use clap::{Arg, ArgAction, Command};
 use std::alloc::{AllocError, Global};
 
@@ -101,6 +104,40 @@ files can't be compared.
 
 In the place of the capture - is standard input.";
 
+const SHOW_EXAMPLE: &str = "Example:
+  pfreplay show office.pcap verdicts.txt /etc/pf.conf --interface em0 --address 192.0.2.1/24";
+
+const MORE_OF_SHOW: &str =
+    "It joins each packet with the line of verdicts that a run with this ruleset wrote of it, and prints a
+line: time, rule with its line, reason, verdict, direction, interface, and the packet as it was
+captured.
+
+Which rule blocks what comes from a host, how many packets there are, and a capture for tcpdump:
+  pfreplay show office.pcap verdicts.txt /etc/pf.conf --interface em0 --address 192.0.2.1/24 \\
+      --only block,return --host 198.51.100.8
+  pfreplay show office.pcap verdicts.txt /etc/pf.conf --interface em0 --address 192.0.2.1/24 \\
+      --line 43 --count
+  pfreplay show office.pcap verdicts.txt /etc/pf.conf --interface em0 --address 192.0.2.1/24 \\
+      --logged --format pflog | tcpdump -nn -e -r -
+
+In the place of the capture or of the verdicts - is standard input, for one of them.";
+
+/// The flags that say which packets are shown: their names, what the help calls their values, and their help.
+const SELECTION_FLAGS: [(&str, &str, &str); 4] = [
+    ("only", VERDICTS, "Only packets with one of these verdicts"),
+    (
+        "rule",
+        NUMBER,
+        "Only packets of the filter rule with this number",
+    ),
+    ("line", NUMBER, "Only packets of rules on this line"),
+    (
+        "host",
+        HOST,
+        "Only packets from or to this address, or this network",
+    ),
+];
+
 /// The flags that say which interface a ruleset is for: their names, what the help calls their values, and their help.
 const INTERFACE_FLAGS: [(&str, &str, &str); 2] = [
     (
@@ -136,7 +173,8 @@ pub(crate) fn command_line<'a>(alloc: Global) -> Result<Command<'a>, AllocError>
 /// A program with the commands that show what a ruleset says and changes.
 fn with_views<'a>(alloc: Global, program: Command<'a>) -> Result<Command<'a>, AllocError> {
     let program = program.subcommand(rules_command(alloc)?)?;
-    program.subcommand(diff_command(alloc)?)
+    let program = program.subcommand(diff_command(alloc)?)?;
+    program.subcommand(show_command(alloc)?)
 }
 
 /// The program without its commands.
@@ -185,10 +223,7 @@ fn with_choices<'a>(alloc: Global, command: Command<'a>) -> Result<Command<'a>, 
 fn warn_arg<'a>(alloc: Global) -> Arg<'a> {
     let help =
         "Say on standard error what may mean that ruleset, captures and flags don't fit, and why a file can't be opened";
-    Arg::new(alloc, "warn")
-        .long("warn")
-        .help(help)
-        .action(ArgAction::SetTrue)
+    switch(alloc, "warn", help)
 }
 
 /// A command with the flags that say which way packets go, and where they were captured.
@@ -251,14 +286,46 @@ fn diff_command<'a>(alloc: Global) -> Result<Command<'a>, AllocError> {
 
 /// A command with the flags that say how two rulesets are compared.
 fn with_comparison<'a>(alloc: Global, command: Command<'a>) -> Result<Command<'a>, AllocError> {
-    let verdicts = Arg::new(alloc, "verdicts")
-        .long("verdicts")
-        .help("Only where the verdict is another one")
-        .action(ArgAction::SetTrue);
+    let verdicts = switch(alloc, "verdicts", "Only where the verdict is another one");
     let command = with_ways(alloc, command)?;
     let command = command.arg(also_arg(alloc, AlsoForm::Compared))?;
     let command = with_seed(alloc, command)?;
     with_adapt(alloc, command.arg(verdicts)?)
+}
+
+/// The command that shows packets.
+fn show_command<'a>(alloc: Global) -> Result<Command<'a>, AllocError> {
+    let capture = "The file with the packet capture, in the classic pcap format";
+    let command = Command::new(alloc, "show")
+        .about("Shows packets of a capture, each with the rule that decided")
+        .before_help(SHOW_EXAMPLE)
+        .after_help(MORE_OF_SHOW)
+        .arg(word(alloc, "CAPTURE", capture))?;
+    let command = command.arg(word(alloc, "VERDICTS", "The file of the verdicts that run wrote"))?;
+    let command = with_ruleset(alloc, command)?;
+    let command = command.arg(also_arg(alloc, AlsoForm::Compared))?;
+    with_adapt(alloc, with_selection(alloc, command)?)
+}
+
+/// A command with the flags that say which packets are shown, and how.
+fn with_selection<'a>(alloc: Global, command: Command<'a>) -> Result<Command<'a>, AllocError> {
+    let mut command = command;
+    for (name, form, help) in &SELECTION_FLAGS {
+        command = command.arg(flag(alloc, name, form, help).required(false))?;
+    }
+    let command = command.arg(switch(alloc, "logged", "Only packets that pf would log"))?;
+    let count = switch(alloc, "count", "Say how many packets there are alone");
+    let command = command.arg(count.conflicts_with("format")?)?;
+    let form = "How packets are shown [default: text]";
+    command.arg(flag(alloc, "format", FORMAT, form).required(false))
+}
+
+/// A flag without a value.
+fn switch<'a>(alloc: Global, name: &'a str, help: &'a str) -> Arg<'a> {
+    Arg::new(alloc, name)
+        .long(name)
+        .help(help)
+        .action(ArgAction::SetTrue)
 }
 
 /// A command with the flag that says what random choices begin with.
@@ -284,11 +351,8 @@ fn check_command<'a>(alloc: Global) -> Result<Command<'a>, AllocError> {
 fn with_adapt<'a>(alloc: Global, command: Command<'a>) -> Result<Command<'a>, AllocError> {
     let help =
         "Rewrite the ruleset as the command adapt does, and say on standard error what was rewritten";
-    let adapt = Arg::new(alloc, "adapt")
-        .long("adapt")
-        .help(help)
-        .action(ArgAction::SetTrue);
-    with_surroundings(alloc, command.arg(adapt)?, true)
+    let command = command.arg(switch(alloc, "adapt", help))?;
+    with_surroundings(alloc, command, true)
 }
 
 /// A command with the flags that say what a ruleset can't. If they need it, they are refused without the flag that has the ruleset
@@ -326,16 +390,13 @@ fn standby_command<'a>(alloc: Global) -> Result<Command<'a>, AllocError> {
 
 /// The command that lists states.
 fn states_command<'a>(alloc: Global) -> Result<Command<'a>, AllocError> {
-    let json = Arg::new(alloc, "json")
-        .long("json")
-        .help("Print an object of JSON for each state, on a line of its own")
-        .action(ArgAction::SetTrue);
+    let json = "Print an object of JSON for each state, on a line of its own";
     let command = Command::new(alloc, "states")
         .about("Lists the states that a run left, as pfctl does")
         .before_help(STATES_EXAMPLE)
         .after_help(MORE_OF_STATES)
         .arg(word(alloc, "STATES", "The file of the states that run wrote"))?;
-    command.arg(json)
+    command.arg(switch(alloc, "json", json))
 }
 
 /// A command with the words that say a ruleset and the interface that it is for.

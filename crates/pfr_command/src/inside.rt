@@ -68,7 +68,7 @@ fn is_among(networks: &[Net], network: &Net) -> bool
 }
 
 /// The parts of a word, between which commas stand.
-fn parts_of<'a>(alloc: Global, word: &'a str) -> Result<Vec<&'a str>, AllocError>
+pub(crate) fn parts_of<'a>(alloc: Global, word: &'a str) -> Result<Vec<&'a str>, AllocError>
     ensures { IfOk result (λ parts. map (λ p. p.now) parts.items ≡ slice_split (λ b. b == 44) word.entry.now) }
 {
     word.split(',').collect(alloc)

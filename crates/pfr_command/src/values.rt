@@ -34,6 +34,14 @@ pub(crate) const BATCH: &str = "1..4096";
 pub(crate) const WORKERS: &str = "0..64";
 /// The form of the value behind `--peer`.
 pub(crate) const PEER: &str = "HOST:PORT";
+/// The form of the value behind `--only`.
+pub(crate) const VERDICTS: &str = "VERDICTS";
+/// The form of the value behind `--rule` and `--line`.
+pub(crate) const NUMBER: &str = "N";
+/// The form of the value behind `--host`.
+pub(crate) const HOST: &str = "A.B.C.D[/BITS]";
+/// The form of the value behind `--format`.
+pub(crate) const FORMAT: &str = "text|json|pflog";
 /// The form of the value behind the flags that name a file.
 pub(crate) const FILE: &str = "FILE";
 

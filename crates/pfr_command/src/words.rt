@@ -14,6 +14,7 @@ use crate::inside::{Inside, networks};
 use crate::mac::link_addresses;
 use crate::peer::Peer;
 use crate::refused::Refused;
+use crate::show::{SelectionWords, ShowForm, ShowWords, count, form, host, verdicts_in};
 use crate::values::{batch, interface, peer, seed, tap, workers};
 use clap::ArgMatches;
 use clap::error::ErrorKind;
@@ -43,6 +44,8 @@ pub enum Asked<'a> {
     Rules(RulesWords<'a>),
     /// To say what another ruleset changes for the packets of a capture.
     Diff(DiffWords<'a>),
+    /// To show packets with what a run wrote of them.
+    Show(ShowWords<'a>),
     /// To print this text and no more.
     Text(String),
 }
@@ -182,6 +185,9 @@ pub fn parse<'a>(alloc: Global, words: &'a [String]) -> Result<Asked<'a>, Refuse
     }
     if let Some(matches) = matches.subcommand_matches("diff") {
         return diff_words(alloc, matches);
+    }
+    if let Some(matches) = matches.subcommand_matches("show") {
+        return show_words(alloc, matches);
     }
     match matches.subcommand_matches("states") {
         Some(matches) => states_words(matches),
@@ -467,6 +473,68 @@ fn diff_words<'a>(alloc: Global, matches: &ArgMatches<'a>) -> Result<Asked<'a>, 
         seed,
         verdicts_alone: matches.get_flag("verdicts"),
     }))
+}
+
+/// What the words behind `show` ask for.
+fn show_words<'a>(alloc: Global, matches: &ArgMatches<'a>) -> Result<Asked<'a>, Refused<'a>> {
+    let selection = given_selection(alloc, matches)?;
+    let form = given_form(matches)?;
+    let verdicts = given(matches, "VERDICTS")?;
+    let adapts = matches.get_flag("adapt");
+    let places = given_captures(alloc, matches)?;
+    let rules = given_rules(alloc, matches, "RULES", adapts, places.interfaces)?;
+    Ok(Asked::Show(ShowWords {
+        captures: places.captures,
+        verdicts,
+        rules,
+        selection,
+        form,
+    }))
+}
+
+/// Which packets the words ask for.
+fn given_selection<'a>(
+    alloc: Global,
+    matches: &ArgMatches<'a>,
+) -> Result<SelectionWords, Refused<'a>> {
+    let only = match matches.get_str("only") {
+        Some(word) => Some(verdicts_in(alloc, word)?),
+        None => None,
+    };
+    let host = match matches.get_str("host") {
+        Some(word) => Some(host(word)?),
+        None => None,
+    };
+    Ok(SelectionWords {
+        only,
+        rule: given_count(matches, "rule", "--rule")?,
+        line: given_count(matches, "line", "--line")?,
+        host,
+        logged: matches.get_flag("logged"),
+    })
+}
+
+/// The number behind a flag, if it is given.
+fn given_count<'a>(
+    matches: &ArgMatches<'a>,
+    name: &'a str,
+    flag: &'a str,
+) -> Result<Option<u64>, Refused<'a>> {
+    match matches.get_str(name) {
+        Some(word) => Ok(Some(count(flag, word)?)),
+        None => Ok(None),
+    }
+}
+
+/// How the words ask for packets to be shown. At most one of the two flags is there.
+fn given_form<'a>(matches: &ArgMatches<'a>) -> Result<ShowForm, Refused<'a>> {
+    if matches.get_flag("count") {
+        return Ok(ShowForm::Count);
+    }
+    match matches.get_str("format") {
+        Some(word) => form(word),
+        None => Ok(ShowForm::Text),
+    }
 }
 
 /// The word for this place or flag, which was asked for.
