@@ -1,4 +1,1 @@
 pub mod Destinations
-pub mod Heads
-pub mod Jobs
-pub mod Standard

@@ -1,6 +1,6 @@
 //! The connection to whom messages go to or come from.
-use crate::failure::Failure;
 use pfr_command::Peer;
+use pfr_views::Failure;
 use std::io;
 use std::io::Write;
 use std::net::{Net, OpenListener, OpenStream, Shutdown, TcpListener, TcpStream};

@@ -1,20 +1,19 @@
 //! What `pfreplay run` does.
 ghost use Rattle.std.specs.Prelude.{IfOk};
-ghost use Rattle.pfr_cli.specs.Jobs as spec;
+ghost use Rattle.pfr_views.specs.Jobs as spec;
 
-use crate::captures::sources;
 use crate::destination::Destination;
-use crate::failure::{CUT, DONE, Failure};
-use crate::files::created;
-use crate::jobs::job_by;
 use crate::peer::{Connection, connected};
 use crate::same_file::repeated_output;
-use crate::standard::{STANDARD, has_standard, is_standard, repeats_input};
 use pfr_capture::{Tail, WriterSink};
 use pfr_command::{CaptureWords, Messages, RunWords, names_of};
 use pfr_out::{Form, PacketSinks, Report, RunSettings, Sinks, Stop, replay_job};
 use pfr_packet::Job;
 use pfr_prepare::prepared_text;
+use pfr_views::{
+    CUT, DONE, Failure, STANDARD, created, has_standard, is_standard, job_by, repeats_input,
+    sources,
+};
 use pfr_warnings::{Warning, Watch, warn};
 use std::alloc::{AllocError, AllocGlobal};
 use std::io::{ErrorKind, Read, Write};

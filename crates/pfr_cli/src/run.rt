@@ -1,20 +1,23 @@
 //! What the program does.
-use crate::changes::tell_changes;
-use crate::failure::{DONE, Failure, REFUSED, TROUBLE, report};
 use crate::replaying::replay;
-use crate::rules::tell_rules;
 use crate::standby::stand_by;
-use crate::states::list_states;
 use crate::summary::Summary;
 use pfr_command::{Asked, parse};
 use pfr_out::{StandbyStop, Stop};
 use pfr_prepare::{Prepared, Refusal, Request, prepared_text, say_faults};
+use pfr_views::{
+    DONE, Failure, REFUSED, TROUBLE, list_states, print, report, show_packets, tell_changes,
+    tell_rules,
+};
 use std::alloc::Global;
 use std::io::{Read, Write};
 use std::net::Net;
 use std::rt::Files;
 use std::sync::Wait;
 use std::thread::Threads;
+
+/// The commands that show something.
+const SHOWING: [&str; 4] = ["states", "rules", "diff", "show"];
 
 /// Does what the words ask, the program's name first among them, and answers the status to end with. What
 /// is wrong goes to `err`, in one line.
@@ -38,9 +41,9 @@ pub fn run<
 }
 
 /// What is said of memory that is refused depends on the command that the words ask for, the program's name first: `standby` counts
-/// messages and no packets, and `states`, `rules` and `diff` neither.
+/// messages and no packets, and the commands that show something neither.
 fn by_command<'a>(failure: Failure<'a>, words: &[String]) -> Failure<'a> {
-    if ask_for(words, "states") || ask_for(words, "rules") || ask_for(words, "diff") {
+    if SHOWING.iter().any(|command| ask_for(words, command)) {
         return failure.without_packets();
     }
     match failure {
@@ -76,6 +79,7 @@ fn work<
         Asked::States(asked) => list_states(rt, &asked, input, out),
         Asked::Rules(asked) => tell_rules(rt, &asked, out, err),
         Asked::Diff(asked) => tell_changes(rt, &asked, input, out, err),
+        Asked::Show(asked) => show_packets(rt, &asked, input, out, err),
     }
 }
 
@@ -131,13 +135,5 @@ fn faults<'a, E: Write>(
         Ok(true) => Ok(REFUSED),
         Ok(false) => Ok(DONE),
         Err(_) => Err(Failure::from(Refusal::Memory)),
-    }
-}
-
-/// Prints a text and no more.
-pub fn print<'a, O: Write>(out: &mut O, text: &[u8]) -> Result<u8, Failure<'a>> {
-    match out.write_all(text) {
-        Ok(()) => Ok(DONE),
-        Err(_) => Err(Failure::PrintFailed),
     }
 }

@@ -6,9 +6,9 @@
 ghost use Rattle.std.specs.Prelude.{◌≡◌, [], ◌∷◌, ◌++◌, Contains, IfOk, IfSome, if◌then◌else◌};
 ghost use Rattle.pfr_command.specs.Outputs.{file_names};
 
-use crate::standard::is_standard;
 use pfr_command::{CaptureWords, RunWords};
 use pfr_prepare::{Flag, Request};
+use pfr_views::is_standard;
 use std::alloc::AllocError;
 use std::fs::Metadata;
 use std::io::ErrorKind;

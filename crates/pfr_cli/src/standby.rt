@@ -1,10 +1,9 @@
 //! What `pfreplay standby` does.
-use crate::failure::{DONE, Failure};
-use crate::origin::origin_of;
 use crate::peer::accepted;
 use pfr_capture::{ReaderSource, Source, WriterSink};
 use pfr_command::Stream;
 use pfr_out::{Framing, standby};
+use pfr_views::{DONE, Failure, origin_of};
 use std::alloc::Global;
 use std::io::{Read, Write};
 use std::net::Net;

@@ -86,3 +86,15 @@ fn origin<'a, R: Files, I: Read>(
         None => Err(Failure::SameFile(name)),
     }
 }
+
+/// The names of the interfaces of captures, by their places.
+pub(crate) fn names_of<'a>(
+    alloc: Global,
+    captures: &[CaptureWords<'a>],
+) -> Result<Vec<&'a str>, AllocError> {
+    let mut names = Vec::new(alloc);
+    for words in captures {
+        names.push(words.interface)?;
+    }
+    Ok(names)
+}

@@ -1,8 +1,8 @@
 use Rattle.std.proofs.Common.{Some, drop, refl, sym, ap, ◌∙◌}
 use Rattle.pfr_capture.specs.Header.{opening_of}
-use Rattle.pfr_cli.proofs.HeadLemmas.{opened}
-use Rattle.pfr_cli.specs.Heads.{link_said}
-use Rattle.pfr_cli.proofs.head.link_of.Goals as goal
+use Rattle.pfr_views.proofs.HeadLemmas.{opened}
+use Rattle.pfr_views.specs.Heads.{link_said}
+use Rattle.pfr_views.proofs.head.link_of.Goals as goal
 
 pub returns-in-Ok : goal.returns-in-Ok
 returns-in-Ok c =

@@ -1,23 +1,20 @@
 //! What `pfreplay diff` does.
 ghost use Rattle.std.specs.Prelude.{◌≡◌};
 
-use crate::captures::sources;
+use crate::captures::{names_of, sources};
 use crate::failure::{CHANGED, DONE, Failure};
 use crate::jobs::job_by;
+use crate::printing::{print, print_piece};
 use crate::rules::rules_of;
-use crate::run::print;
 use crate::standard::{STANDARD, repeats_input};
 use pfr_command::DiffWords;
 use pfr_diff::{BothTold, Compared, Side, Stopped, compare};
 use pfr_packet::Job;
 use pfr_prepare::{Prepared, Request, prepared_text};
 use pfr_wording::{Rules, RulesTold};
-use std::alloc::{AllocError, AllocGlobal, Global};
+use std::alloc::{AllocGlobal, Global};
 use std::io::{Read, Write};
 use std::rt::Files;
-
-/// How many bytes are printed at a time, and a line more.
-const PIECE: usize = 65536;
 
 /// What a run with a ruleset begins with, and its rules.
 #[derive(Drop)]
@@ -160,15 +157,6 @@ fn say_changes<'a, O: Write>(
     }
 }
 
-/// The names of interfaces, by the places of their captures.
-fn names_of<'a>(alloc: Global, asked: &DiffWords<'a>) -> Result<Vec<&'a str>, AllocError> {
-    let mut names = Vec::new(alloc);
-    for words in asked.captures.as_slice() {
-        names.push(words.interface)?;
-    }
-    Ok(names)
-}
-
 /// Prints what changes, a piece of its lines at a time.
 fn print_changes<'a, O: Write>(
     alloc: Global,
@@ -176,16 +164,13 @@ fn print_changes<'a, O: Write>(
     compared: &Compared<'_>,
     out: &mut O,
 ) -> Result<u8, Failure<'a>> {
-    let names = names_of(alloc, asked)?;
+    let names = names_of(alloc, asked.captures.as_slice())?;
     let mut text = Vec::new(alloc);
     for place in 0..compared.changes.len() {
         compared
             .changes
             .append_flow(&mut text, names.as_slice(), place)?;
-        if text.len() >= PIECE {
-            print(out, text.as_slice())?;
-            text.clear();
-        }
+        print_piece(out, &mut text)?;
     }
     compared.append_sums(alloc, &mut text)?;
     print(out, text.as_slice())?;

@@ -1,8 +1,8 @@
 use Rattle.std.proofs.Common.{◌≡◌, ℕ, List, drop}
 use Rattle.std.specs.Borrow.{Bor}
 use Rattle.std.specs.List.{list_any}
-use Rattle.pfr_cli.specs.Standard.{is_standard}
-use Rattle.pfr_cli.proofs.standard.has_standard.Given as goal
+use Rattle.pfr_views.specs.Standard.{is_standard}
+use Rattle.pfr_views.proofs.standard.has_standard.Given as goal
 
 abbrev pub invariant-loop-name : goal.invariant-loop-name
 invariant-loop-name l =

@@ -1,5 +1,5 @@
 //! Where the bytes of an input come from.
-ghost use Rattle.pfr_cli.specs.Destinations.{remaining_of};
+ghost use Rattle.pfr_views.specs.Origins.{remaining_of};
 
 use crate::failure::Failure;
 use crate::files::opened;

@@ -6,7 +6,7 @@ use Rattle.pfr_capture.specs.Header.{opening_of}
 use Rattle.pfr_capture.specs.declared.capture.CaptureError.{CaptureError}
 use Rattle.pfr_capture.specs.declared.capture.CaptureError.TheVariants.{LinkType}
 use Rattle.pfr_capture.specs.declared.capture.Form.{Form}
-use Rattle.pfr_cli.specs.declared.head.Head.{Head}
+use Rattle.pfr_views.specs.declared.head.Head.{Head}
 
 -- the bytes that were read ahead and aren't given yet
 abbrev pub remaining_in : Head → Option (List ℕ)

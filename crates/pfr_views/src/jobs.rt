@@ -1,6 +1,6 @@
 //! What the packets of runs are evaluated by.
 ghost use Rattle.std.specs.Prelude.{◌≡◌, IfOk};
-ghost use Rattle.pfr_cli.specs.Jobs as spec;
+ghost use Rattle.pfr_views.specs.Jobs as spec;
 
 use crate::failure::Failure;
 use pfr_command::Ways;

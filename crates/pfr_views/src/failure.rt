@@ -4,6 +4,7 @@ use pfr_command::{CaptureWords, Refused};
 use pfr_listing::Refused as ListingRefused;
 use pfr_out::{ConfError, ConfErrorKind, StandbyStop, Stop};
 use pfr_prepare::{Prepared, Refusal};
+use pfr_show::Misfit;
 use pfr_sync::SyncError;
 use std::alloc::AllocError;
 use std::{fmt, io};
@@ -61,6 +62,10 @@ pub enum Failure<'a> {
     CountersRefused(u64),
     /// What a run writes of the packet of this number isn't read.
     PacketUntold(u64),
+    /// No line of verdicts is joined with the packet of this number.
+    Unjoined(u64, Misfit),
+    /// The file of this name was opened, and can't be read, or no further.
+    CannotRead(&'a str),
     /// Memory was refused to a command that commits no packets.
     NoMemory,
     /// Standard output failed.
@@ -176,9 +181,10 @@ impl<'a> Failure<'a> {
             | Failure::RulesRefused { .. }
             | Failure::RulesUntold
             | Failure::CountersRefused(_)
-            | Failure::PacketUntold(_) => REFUSED,
+            | Failure::PacketUntold(_)
+            | Failure::Unjoined(_, _) => REFUSED,
             Failure::NoMemory => NO_MEMORY,
-            Failure::CannotOpen { .. } | Failure::PrintFailed => DEVICE,
+            Failure::CannotOpen { .. } | Failure::CannotRead(_) | Failure::PrintFailed => DEVICE,
             Failure::Stopped { stop, .. } => status_of(stop),
             Failure::StandbyStopped(stop) => standby_status_of(stop),
             Failure::StatesRefused(refused) => states_status_of(refused),
@@ -263,6 +269,16 @@ fn code_of(refusal: SyncError) -> u8 {
     }
 }
 
+/// Why no line is joined with a packet.
+fn why_unjoined(misfit: Misfit) -> &'static str {
+    match misfit {
+        Misfit::NoLine => "no line of verdicts",
+        Misfit::OtherCapture => "not of this capture",
+        Misfit::OtherRuleset => "not of this ruleset",
+        Misfit::Memory => "no memory",
+    }
+}
+
 /// Says in one line what is wrong, and answers the status to end with.
 pub fn report<E: io::Write>(failure: &Failure<'_>, err: &mut E) -> u8 {
     // Where this can't be written either, the status alone says it.
@@ -297,6 +313,11 @@ impl fmt::Display for Failure<'_> {
             Failure::PacketUntold(number) => {
                 write!(f, "packet {number} not told: please report this")
             }
+            Failure::Unjoined(number, misfit) => {
+                let why = why_unjoined(*misfit);
+                write!(f, "packet {number}: {why}")
+            }
+            Failure::CannotRead(name) => write!(f, "cannot read: {name}"),
             Failure::NoMemory => write!(f, "no memory"),
             Failure::PrintFailed => write!(f, "write failed: standard output"),
         }

@@ -1,7 +1,7 @@
 //! The header of a capture, read ahead.
 ghost use Rattle.std.specs.Prelude.{◌≡◌, ◌<◌, [], length, IfOk, IfSome, OnOk, Some};
 ghost use Rattle.std.specs.Io.KnownBytes.{Consumes};
-ghost use Rattle.pfr_cli.specs.Heads.{MoreRead, link_in, remaining_in};
+ghost use Rattle.pfr_views.specs.Heads.{MoreRead, link_in, remaining_in};
 
 use pfr_capture::{Capture, CaptureError, Mem};
 use std::alloc::{AllocError, Global};

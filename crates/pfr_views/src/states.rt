@@ -1,15 +1,13 @@
 //! What `pfreplay states` does.
 use crate::failure::{DONE, Failure};
+use crate::files::text_of;
 use crate::origin::origin_of;
-use crate::run::print;
+use crate::printing::{print, print_piece};
 use pfr_command::StatesWords;
 use pfr_listing::{Listed, listed, put_json, put_pfctl};
 use std::alloc::{AllocError, Global};
 use std::io::{Read, Write};
 use std::rt::Files;
-
-/// How many bytes are printed at a time, and a line more.
-const PIECE: usize = 65536;
 
 /// Prints the states that a run left, and answers the status.
 pub fn list_states<'a, R: Files + AllocGlobal, I: Read + Drop, O: Write>(
@@ -18,24 +16,10 @@ pub fn list_states<'a, R: Files + AllocGlobal, I: Read + Drop, O: Write>(
     input: I,
     out: &mut O,
 ) -> Result<u8, Failure<'a>> {
-    let text = text_of(rt, asked.name, input)?;
+    let text = text_of(rt.alloc(), asked.name, origin_of(rt, asked.name, input)?)?;
     match listed(rt.alloc(), text.as_slice()) {
         Ok(states) => print_all(rt.alloc(), asked.as_json, states.as_slice(), out),
         Err(refused) => Err(Failure::StatesRefused(refused)),
-    }
-}
-
-/// All bytes of the file of this name, or of standard input.
-fn text_of<'a, R: Files + AllocGlobal, I: Read + Drop>(
-    rt: &R,
-    name: &'a str,
-    input: I,
-) -> Result<Vec<u8>, Failure<'a>> {
-    let mut origin = origin_of(rt, name, input)?;
-    let mut text = Vec::new(rt.alloc());
-    match origin.read_to_end(&mut text) {
-        Ok(_count) => Ok(text),
-        Err(error) => Err(Failure::of_opening(name, &error)),
     }
 }
 
@@ -49,10 +33,7 @@ fn print_all<'a, O: Write>(
     let mut text = Vec::new(alloc);
     for state in states {
         put(as_json, state, &mut text)?;
-        if text.len() >= PIECE {
-            print(out, text.as_slice())?;
-            text.clear();
-        }
+        print_piece(out, &mut text)?;
     }
     print(out, text.as_slice())?;
     Ok(DONE)

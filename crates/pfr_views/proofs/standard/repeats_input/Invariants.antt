@@ -1,6 +1,6 @@
 use Rattle.std.proofs.Common.{◌≡◌, ◌+◌, drop, if◌then◌else◌}
-use Rattle.pfr_cli.specs.Standard.{standard_inputs}
-use Rattle.pfr_cli.proofs.standard.repeats_input.Given as goal
+use Rattle.pfr_views.specs.Standard.{standard_inputs}
+use Rattle.pfr_views.proofs.standard.repeats_input.Given as goal
 
 abbrev pub invariant-loop-words : goal.invariant-loop-words
 invariant-loop-words l =

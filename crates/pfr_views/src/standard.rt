@@ -1,7 +1,7 @@
 //! The standard streams, which a word may name in the place of a file.
 ghost use Rattle.std.specs.Prelude.{◌≡◌, nat_lt};
 ghost use Rattle.std.specs.List.{list_any};
-ghost use Rattle.pfr_cli.specs.Standard.{is_standard, standard_inputs};
+ghost use Rattle.pfr_views.specs.Standard.{is_standard, standard_inputs};
 
 use pfr_command::CaptureWords;
 
@@ -26,6 +26,11 @@ pub fn has_standard(names: &[&str]) -> bool
         }
     }
     false
+}
+
+/// Whether one of these captures comes from standard input.
+pub(crate) fn has_standard_capture(captures: &[CaptureWords<'_>]) -> bool {
+    captures.iter().any(|words| is_standard(words.capture))
 }
 
 /// Whether more than one of these captures comes from standard input.

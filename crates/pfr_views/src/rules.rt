@@ -1,15 +1,16 @@
 //! What `pfreplay rules` does.
 use crate::failure::{DONE, Failure};
-use crate::files::opened;
-use crate::run::print;
+use crate::files::{opened, text_of};
+use crate::printing::print;
 use pfr_command::RulesWords;
 use pfr_expand::ruleset_of;
 use pfr_listing::{Refused, RuleCounts, counters_in};
 use pfr_prepare::{Prepared, Request, prepared_text};
 use pfr_ruleset::Ruleset;
-use pfr_wording::{Rules, Untold};
+use pfr_shadows::{Shadow, shadows};
+use pfr_wording::{Rules, Said, Untold};
 use std::alloc::Global;
-use std::io::{Read, Write};
+use std::io::Write;
 use std::rt::Files;
 
 /// Prints each rule of a ruleset, and answers the status.
@@ -20,13 +21,42 @@ pub fn tell_rules<'a, R: Files + AllocGlobal, O: Write, E: Write>(
     err: &mut E,
 ) -> Result<u8, Failure<'a>> {
     let text = prepared_text(rt, &asked.rules, err)?;
-    let rules = rules_in(rt.alloc(), &asked.rules, &text)?;
-    let counts = counts_of(rt, asked.counters, &rules)?;
-    print_rules(rt.alloc(), &rules, counts.as_ref(), out)
+    let told = told_in(rt.alloc(), &asked.rules, &text)?;
+    let counts = counts_of(rt, asked.counters, &told.rules)?;
+    let said = Said {
+        counts: counts.as_ref(),
+        shadows: told.shadows.as_slice(),
+    };
+    print_rules(rt.alloc(), &told.rules, said, out)
+}
+
+/// The rules of a ruleset, and those that are shadowed.
+#[derive(Drop)]
+struct Told {
+    rules: Rules,
+    shadows: Vec<Shadow>,
+}
+
+/// The rules of a ruleset's text, and those that are shadowed.
+fn told_in<'a>(alloc: Global, request: &Request<'a>, text: &Prepared) -> Result<Told, Failure<'a>> {
+    let found = ruleset_of(alloc, text.text.as_slice(), request.interfaces.as_slice());
+    match found {
+        Ok(ruleset) => told_of(alloc, text, &ruleset),
+        Err(fault) => Err(Failure::from(fault).in_file(text)),
+    }
+}
+
+/// The rules of a ruleset that this text means, and those that are shadowed.
+fn told_of<'a>(alloc: Global, text: &Prepared, ruleset: &Ruleset) -> Result<Told, Failure<'a>> {
+    let rules = rules_of(alloc, text, ruleset)?;
+    match shadows(alloc, ruleset) {
+        Ok(shadows) => Ok(Told { rules, shadows }),
+        Err(_) => Err(Failure::NoMemory),
+    }
 }
 
 /// The rules of a ruleset's text.
-fn rules_in<'a>(
+pub(crate) fn rules_in<'a>(
     alloc: Global,
     request: &Request<'a>,
     text: &Prepared,
@@ -39,7 +69,11 @@ fn rules_in<'a>(
 }
 
 /// The rules of a ruleset that this text means.
-pub fn rules_of<'a>(alloc: Global, text: &Prepared, rules: &Ruleset) -> Result<Rules, Failure<'a>> {
+pub(crate) fn rules_of<'a>(
+    alloc: Global,
+    text: &Prepared,
+    rules: &Ruleset,
+) -> Result<Rules, Failure<'a>> {
     match Rules::of(alloc, text, rules) {
         Ok(rules) => Ok(rules),
         Err(Untold::OtherRules) => Err(Failure::RulesUntold),
@@ -56,7 +90,7 @@ fn counts_of<'a, R: Files + AllocGlobal>(
     let Some(name) = name else {
         return Ok(None);
     };
-    let text = text_of(rt, name)?;
+    let text = text_of(rt.alloc(), name, opened(rt, name)?)?;
     let (filter, translations) = rules.counts();
     match counters_in(rt.alloc(), text.as_slice(), filter, translations) {
         Ok(counts) => Ok(Some(counts)),
@@ -65,25 +99,15 @@ fn counts_of<'a, R: Files + AllocGlobal>(
     }
 }
 
-/// All bytes of the file of this name.
-fn text_of<'a, R: Files + AllocGlobal>(rt: &R, name: &'a str) -> Result<Vec<u8>, Failure<'a>> {
-    let mut file = opened(rt, name)?;
-    let mut text = Vec::new(rt.alloc());
-    match file.read_to_end(&mut text) {
-        Ok(_count) => Ok(text),
-        Err(error) => Err(Failure::of_opening(name, &error)),
-    }
-}
-
-/// Prints rules, with what a run counted of them.
+/// Prints rules, with what is said of them.
 fn print_rules<'a, O: Write>(
     alloc: Global,
     rules: &Rules,
-    counts: Option<&RuleCounts>,
+    said: Said<'_>,
     out: &mut O,
 ) -> Result<u8, Failure<'a>> {
     let mut text = Vec::new(alloc);
-    rules.append(alloc, &mut text, counts)?;
+    rules.append(alloc, &mut text, said)?;
     print(out, text.as_slice())?;
     Ok(DONE)
 }

@@ -1,0 +1,4 @@
+pub mod Heads
+pub mod Jobs
+pub mod Origins
+pub mod Standard
