@@ -26,14 +26,14 @@ import building
 TESTS = Path(__file__).resolve().parent
 # each is a package with a module `compare`
 WORDS = ("runs", "rulesets", "expansions", "tracking", "table", "steps", "commits", "messages", "schedules",
-         "published", "devices", "workers", "matrix", "standby", "listing", "telling", "changes", "adapt", "faults",
-         "hostile", "gateway", "manners")
+         "published", "devices", "workers", "matrix", "standby", "listing", "telling", "changes", "showing", "adapt",
+         "faults", "hostile", "gateway", "manners")
 # those without answers written by hand
 WITHOUT_MODEL_ALONE = ("workers", "hostile", "gateway", "manners")
 # those of the program pfreplay, of message_answers, of schedule_answers, of published_answers and of run_answers; all
 # others are of the program `answers`
-OF_PFREPLAY = ("runs", "workers", "matrix", "standby", "listing", "telling", "changes", "adapt", "faults", "hostile",
-               "gateway", "manners")
+OF_PFREPLAY = ("runs", "workers", "matrix", "standby", "listing", "telling", "changes", "showing", "adapt", "faults",
+               "hostile", "gateway", "manners")
 OF_MESSAGES = ("messages",)
 OF_SCHEDULES = ("schedules", "devices")
 OF_PUBLISHED = ("published",)

@@ -29,7 +29,7 @@ OUTPUTS = ("verdicts", "packets", "counters", "states", "messages")
 
 
 class Costly(NamedTuple):
-    """A ruleset, and the packets of a capture, each with its second; without any it is checked alone, or adapted."""
+    """A ruleset, and the packets of a capture, each with its second; without any it is checked, adapted or told."""
     name: str
     rules: str
     records: list = []
@@ -90,6 +90,7 @@ def costly():
     yield Costly("65536 rules of addresses", f"pass from {{ {addresses(256)} }} to {{ {addresses(256)} }}\n")
     yield Costly("brackets that are never closed", "pass from {" * (MOST // 11))
     yield from adapted()
+    yield from told()
     yield Costly("comments alone", "#\n" * (MOST // 2))
     yield Costly("labels of 65536 rules", "pass label \"x\"\n" * 65536)
 
@@ -113,6 +114,17 @@ def adapted():
                  command="adapt")
     yield Costly("adapt: anchors alone", "anchor a\n" * (MOST // 9), command="adapt")
     yield Costly("adapt: a fault in each statement", "pass nonsense\n" * (MOST // 14), command="adapt")
+
+
+def told():
+    """Rulesets whose rules are printed, as many as shadows are looked for among."""
+    ports = " ".join(str(port) for port in range(1, 2049))
+    yield Costly("rules: 2048 rules of one port each", f"block quick proto udp to port {{ {ports} }}\n",
+                 command="rules")
+    half, table = " ".join(["<t>"] * 1024), f"table <t> {{ {addresses(50000)} }}\n"
+    alone = " ".join(f"1.1.{place // 256}.{place % 256}" for place in range(1024))
+    yield Costly("rules: 1024 addresses in no table", f"{table}block quick from {{ {half} }} to 9.9.9.9\n"
+                 f"block from {{ {alone} }} to 9.9.9.9\n", command="rules")
 
 
 def run(program, folder, case):

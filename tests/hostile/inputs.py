@@ -15,17 +15,22 @@ from adapt.drawn_surroundings import hostile_surroundings
 from captures.packets import capture_header, record
 from expansions.hostile import doubled, hostile, nested
 from expansions.random_texts import Writer
+from listing.drawn import KINDS as DAMAGE
 from listing.drawn import some_file
 from rulesets.cases import PIECE, change_lines, change_pieces, written
 from runs import lines
+from runs import model as runs_model
+from runs.case import Case
 from runs.random_cases import some_capture
+from showing.verdicts import REASONS
 from standby import streams
+from telling import shadow_texts
 
 INTERFACE = ("--interface", "em0", "--address", "192.0.2.1/24")
 INSIDE = ("--inside", "10.0.0.0/8")
 OUTPUTS = ("verdicts", "packets", "counters", "states")
 # files by these names
-RULES, CAPTURE, MESSAGES, LEFT, NEW_RULES = "rules", "capture", "messages", "left", "new_rules"
+RULES, CAPTURE, MESSAGES, LEFT, NEW_RULES, VERDICTS = "rules", "capture", "messages", "left", "new_rules", "lines"
 # names of tables of the captures' fields that are damaged: where they stand in a record's header, and their bytes
 FIELDS = ((0, 4), (4, 4), (8, 4), (12, 4))
 LINKS = (0, 1, 101)
@@ -269,6 +274,11 @@ def viewed_ruleset(given):
     return Input("rules", ("rules", name, *adapts, *flags), given.files)
 
 
+def shadowed_ruleset(draw):
+    """A ruleset in which rules are likely to be shadowed."""
+    return check(draw, "rulesets, shadows", damaged_ruleset(draw, shadow_texts.some_ruleset(draw)))
+
+
 def viewed_capture(draw, given):
     """The same capture, of which the ruleset is compared with a damaged one."""
     ways = INSIDE + (("--tap", "wire") if "--tap" in given.words else ())
@@ -284,8 +294,52 @@ def viewed_capture(draw, given):
 def viewed(draw):
     """A ruleset whose rules are printed, or a capture of which two rulesets are compared."""
     if draw.random() < 0.5:
-        return viewed_ruleset(draw.choice((made_ruleset, real_ruleset, edge_ruleset, adapted))(draw))
+        make = draw.choice((made_ruleset, real_ruleset, edge_ruleset, adapted, shadowed_ruleset))
+        return viewed_ruleset(make(draw))
     return viewed_capture(draw, draw.choice((capture_of_a_run, made_capture))(draw))
+
+
+# Packets with lines of verdicts
+
+def some_verdict(draw, number):
+    """A line of a packet, without its newline, which mostly says what a run could."""
+    reason = draw.choice(sorted(REASONS))
+    direction, words = draw.choice(("in", "out", "-")), f"{draw.choice(REASONS[reason])} {reason}"
+    rules = (draw.choice(("-", 0, 0, 1, draw.choice(NUMBERS))) for _ in range(2))
+    number = number if draw.random() < 0.98 else draw.choice(NUMBERS)
+    ends = " ".join(f"{letter}={each}" for letter, each in zip("rts", (*rules, draw.choice(("-", number)))))
+    return f"{number} {draw.choice((0, 0, *NUMBERS))} {direction} {words} {ends}"
+
+
+def some_verdicts(draw, given):
+    """The lines of a run over a capture, or any others, maybe with damage."""
+    if draw.random() < 0.6:
+        case = Case("", given.files[RULES], INSIDE[1], given.files[CAPTURE])
+        octets = runs_model.run(case, runs_model.NONE).files.verdicts or b""
+    else:
+        octets = "".join(f"{some_verdict(draw, number)}\n" for number in range(1, draw.randint(1, 14))).encode()
+    for kind in draw.choices(DAMAGE, k=draw.choice((0, 0, 0, 1, 2))):
+        octets = kind(draw, octets)
+    return some_bytes(draw, octets) if draw.random() < 0.1 else octets
+
+
+def some_views(draw):
+    """Flags that ask for packets, and how these are printed."""
+    flags = (("--only", draw.choice(("pass", "block,return", "skip"))), ("--rule", str(draw.choice(NUMBERS[:8]))),
+             ("--line", str(draw.choice(NUMBERS[1:8]))), ("--host", draw.choice(("10.0.0.5", "0.0.0.0/0"))),
+             ("--logged",))
+    printing = draw.choice(((), ("--count",), *(("--format", form) for form in ("text", "json", "pflog"))))
+    return (*(word for flag in flags if draw.random() < 0.15 for word in flag), *printing)
+
+
+def shown(draw):
+    """A capture whose packets are shown, with lines of verdicts."""
+    given = draw.choice((capture_of_a_run, made_capture))(draw)
+    files = {**given.files, VERDICTS: some_verdicts(draw, given)}
+    if draw.random() < 0.1:
+        files[RULES] = damaged_ruleset(draw, files[RULES])
+    adapts = ("--adapt",) if draw.random() < 0.1 else ()
+    return Input("show", ("show", CAPTURE, VERDICTS, RULES, *INTERFACE, *some_views(draw), *adapts), files)
 
 
 # Command lines
@@ -317,19 +371,22 @@ MAKERS = ((made_ruleset, 20), (real_ruleset, 15), (edge_ruleset, 8), (adapted, 1
           (made_capture, 18), (damaged_messages, 15), (command_line, 12))
 # among this many inputs one is a large ruleset
 LARGE = 2000
-# how often an input is a file of states, and how often such a file is long; how often it is a view
-OF_STATES, LONG, VIEWS = 0.1, 0.02, 0.1
+# how often an input is a file of states, and how often such a file is long; how often it is a view, or shows packets
+OF_STATES, LONG, VIEWS, SHOWN = 0.1, 0.02, 0.1, 0.1
 
 
 def drawn(seed):
-    """The input of a seed. Whether it is a file of states, or a view, is drawn apart, so all others stay as they were
-    without these."""
+    """The input of a seed. Whether it is a file of states, or a view, or shows packets, is drawn apart, so all others
+    stay as they were without these."""
     apart = random.Random(f"states {seed}")
     if apart.random() < OF_STATES:
         return damaged_states(apart)
     apart = random.Random(f"views {seed}")
     if apart.random() < VIEWS:
         return viewed(apart)
+    apart = random.Random(f"shown {seed}")
+    if apart.random() < SHOWN:
+        return shown(apart)
     draw = random.Random(seed)
     if draw.randrange(LARGE) == 0:
         return large_ruleset(draw)

@@ -21,7 +21,8 @@ DONE, REFUSED, CUT, FAILED = range(4)
 # those of `diff`
 CHANGED, TROUBLE = REFUSED, CUT
 STATUSES = {"check": (DONE, REFUSED), "adapt": (DONE, REFUSED), "run": (DONE, REFUSED, CUT), "standby": (DONE, REFUSED),
-            "states": (DONE, REFUSED), "rules": (DONE, REFUSED), "diff": (DONE, CHANGED, TROUBLE)}
+            "states": (DONE, REFUSED), "rules": (DONE, REFUSED), "diff": (DONE, CHANGED, TROUBLE),
+            "show": (DONE, REFUSED)}
 ONE_LINE = re.compile(rb"pfreplay: [^\n]*\n")
 # the one device that fails: a file that isn't there
 CANNOT_OPEN = re.compile(rb"pfreplay: cannot open: [^\n]*\n")

@@ -264,7 +264,9 @@ def spelled(value):
     if isinstance(value, str):
         return '"' + "".join(letter if " " <= letter <= "~" and letter not in '"\\' else f"\\u{ord(letter):04x}"
                              for letter in value) + '"'
-    return "null" if value is None else str(value)
+    if value is None or isinstance(value, bool):
+        return {None: "null", True: "true", False: "false"}[value]
+    return str(value)
 
 
 def json_line(state):

@@ -10,7 +10,8 @@ from manners.helps import HELP, expect_words
 # seconds; other comparisons may run at the same time
 TIME_LIMIT = 60
 # those that the man page refers to, which a machine need not have
-MANUALS = ("diff.1", "tcpdump.1", "pcap.3", "pfsync.4", "hosts.5", "pf.conf.5", "services.5", "pfctl.8")
+MANUALS = ("diff.1", "tcpdump.1", "pcap.3", "pf.4", "pflog.4", "pfsync.4", "hosts.5", "pf.conf.5", "services.5",
+           "pfctl.8")
 # completes the last of some words, as bash calls the function that is registered
 COMPLETE = """
 source "$0"
@@ -21,6 +22,7 @@ COMP_WORDS=("$@") COMP_CWORD=$(($# - 1))
 """
 FILES = ("office.pcap", "rules.conf", "two words.pcap")
 TAPS, CAPTURE = {"stack", "wire"}, {"office.pcap"}
+FORMATS, VERDICTS = {"text", "json", "pflog"}, {"pass", "block", "return", "skip"}
 # words behind the program's name as bash cuts them, and what completes the last one
 CASES = (
     (("run", "--tap", ""), TAPS),
@@ -55,10 +57,29 @@ CASES = (
     (("diff", "--tap", "=", ""), TAPS),
     (("diff", "--also", "em1,192.0.2.1/24,of"), {"em1,192.0.2.1/24,office.pcap"}),
     (("diff", "--also", "em1,192.0.2.1/24,a,of"), set()),
+    (("show", "of"), CAPTURE),
+    (("show", "office.pcap", "tw"), {"two words.pcap"}),
+    (("show", "office.pcap", "verdicts", "--count", ""), {*FILES}),
+    (("show", "--logged", "ru"), {"rules.conf"}),
+    (("show", "--l"), {"--line", "--logged"}),
+    (("show", "--ho"), {"--host", "--hosts"}),
+    (("show", "--format", ""), FORMATS),
+    (("show", "--format", "=", "p"), {"pflog"}),
+    (("show", "--only", ""), VERDICTS),
+    (("show", "--only", "=", "b"), {"block"}),
+    (("show", "--only", "block,"), {f"block,{verdict}" for verdict in VERDICTS}),
+    (("show", "--only", "pass,block,r"), {"pass,block,return"}),
+    (("show", "--rule", ""), set()),
+    (("show", "--line", ""), set()),
+    (("show", "--host", "of"), set()),
+    (("show", "--also", "em1,192.0.2.1/24,of"), {"em1,192.0.2.1/24,office.pcap"}),
+    (("show", "--also", "em1,192.0.2.1/24,a,of"), set()),
+    (("sh",), {"show"}),
     (("st",), {"standby", "states"}),
     (("ru",), {"run", "rules"}),
     ((HELP, "a"), {"adapt"}),
     ((HELP, "d"), {"diff"}),
+    ((HELP, "s"), {"standby", "states", "show"}),
     (("nothing", "--"), set()),
 )
 

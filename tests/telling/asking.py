@@ -10,6 +10,11 @@ from telling.model import Asked
 COUNTERS = "told"
 # what stands before a rule
 NUMBERED = re.compile(rb"^(@[0-9]+ L)[0-9]+ ")
+# what stands behind a rule that is shadowed, without counters; a label ends with a quote
+MARK = re.compile(rb"  # shadowed by @[0-9]+$")
+# the ends of the lines of rules that are shadowed, with counters or without, and of those for which no packet counts
+SHADOWED = re.compile(rb"shadowed by @[0-9]+$")
+COUNTS_NOTHING = re.compile(rb": counts no packet(, shadowed by @[0-9]+)?$")
 
 
 # The program
@@ -48,6 +53,16 @@ def checked(comparison, asked):
 def lines_in(printed):
     """The lines that were printed, without their ends."""
     return printed.split(b"\n")[:-1]
+
+
+def marked(printed):
+    """The lines of rules that are shadowed."""
+    return [line for line in lines_in(printed) if SHADOWED.search(line)]
+
+
+def without_marks(printed):
+    """Rules without what is said of those that are shadowed."""
+    return b"".join(MARK.sub(b"", line) + b"\n" for line in lines_in(printed))
 
 
 def text_again(printed, tables):

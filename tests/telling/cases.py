@@ -21,6 +21,7 @@ from rulesets.cases import change_lines, change_pieces
 from runs.case import EXAMPLES
 from runs.filter_cases import MANY_RULES
 from steps.replay import ruleset_of
+from telling import shadow_texts
 from telling.model import MOST_COUNT, Asked
 from telling.row import EM0, EM1
 
@@ -104,6 +105,11 @@ def translation_text(draw):
     return steps.translation_texts.some_text(draw).encode(), (EM0,)
 
 
+def shadow_text(draw):
+    """A ruleset in which rules are likely to be shadowed."""
+    return shadow_texts.some_ruleset(draw), some_interfaces(draw)
+
+
 def plain_text(draw):
     """Rules of the least words."""
     return runs.cases.some_rules(draw), (EM0,)
@@ -111,7 +117,7 @@ def plain_text(draw):
 
 KINDS = {"of the writer": written_text, "of the writer, with faults": faulty_text, "of a folder, changed": changed_text,
          "of a macro's value": valued_text, "of filter runs": filter_text, "of translation runs": translation_text,
-         "of plain rules": plain_text}
+         "of plain rules": plain_text, "of shadows": shadow_text}
 # the kinds by turns
 TURNS = (*KINDS, "of the writer", "of the writer", "of filter runs", "of translation runs")
 

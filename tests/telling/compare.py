@@ -26,7 +26,7 @@ from standby.after_runs import ALONE
 from standby.cases import case_at as run_at
 from standby.many import in_processes, part, told
 from steps.replay import ruleset_of
-from telling import asking, cases, judged, kinds, lines, model, rows, rows_adapted, rows_counters
+from telling import asking, cases, deciding, judged, kinds, lines, model, rows, rows_adapted, rows_counters
 from telling.asking import answered, checked, interface_words, words_of
 from telling.model import Asked
 from telling.row import ONE, TWO
@@ -56,16 +56,22 @@ def tables_of(ruleset):
     return [name for name in ruleset.hosts.tables if name != OWN]
 
 
+def bare(outcome):
+    """What was printed without marks: tables are empty when it is given again, so fewer rules are shadowed."""
+    return outcome._replace(out=asking.without_marks(outcome.out)) if isinstance(outcome, Outcome) else outcome
+
+
 def expect_again(comparison, name, asked, printed, answer):
     """What was printed, maybe with counters, is given again: the same rules are printed of it. It answers what was
     given."""
     tables = tables_of(ruleset_of(asked.text, asked.interfaces))
-    bare = model.answer(asked._replace(counters=None)).out
+    rules = bare(model.answer(asked._replace(counters=None))).out
     again = asking.asked_again(asked, printed, tables)
-    seen, expected = answer(again), asking.printed_again(bare, tables)
-    comparison.expect(f"{name}, given again", expected, seen)
-    words = asking.without_lines(seen.out) if isinstance(seen, Outcome) else None
-    comparison.expect(f"{name}, given again, numbers and words", asking.without_lines(bare), words)
+    seen, expected = answer(again), model.answer(again)
+    comparison.expect(f"{name}, given again", asking.printed_again(rules, tables), bare(seen))
+    comparison.expect(f"{name}, given again, with marks", expected, seen)
+    words = asking.without_lines(bare(seen).out) if isinstance(seen, Outcome) else None
+    comparison.expect(f"{name}, given again, numbers and words", asking.without_lines(rules), words)
     return again
 
 
@@ -222,16 +228,25 @@ def faults(comparison):
 
 # Drawn rulesets
 
+MARKED = "rules marked as shadowed"
 ENDED = (*kinds.ENDINGS, *cases.KINDS, cases.NO_COUNTERS, cases.RIGHT_COUNTERS, *cases.DAMAGES)
 
 
 def counts_of_case(case):
-    """How often each thing comes up in a case."""
+    """How often each thing comes up in a case, and how many rules are shadowed."""
     expected = model.answer(case.asked)
     found = {kinds.ending_of(case.asked, expected), case.kind, case.damage}
     if expected.status == 0:
         found |= kinds.kinds_of(ruleset_of(case.asked.text, case.asked.interfaces), case.asked.interfaces)
-    return Counter(found)
+    return Counter(found) + Counter({MARKED: len(asking.marked(expected.out))})
+
+
+def told_of_drawn(title, found):
+    """Prints how drawn rulesets went, and how many rules were marked. It answers whether something is wrong: also if
+    none was."""
+    is_wrong = told(title, found, (*ENDED, *kinds.OF_RULES), DRAWN_EACH)
+    print(f"  {found.counts[MARKED]} {MARKED}", flush=True)
+    return is_wrong or not found.counts[MARKED]
 
 
 def drawn_case(comparison, number, expect=expect_told):
@@ -246,7 +261,7 @@ def drawn_case_by_model(comparison, number):
 
 # Random runs
 
-DECISIONS = ("a rule that counts", "a rule that counts nothing", "a translation that counts",
+DECISIONS = ("a rule that counts", "a rule that counts nothing", "a rule that is shadowed", "a translation that counts",
              "a translation that counts nothing")
 IN_RUNS = (*DECISIONS, "runs on several interfaces", "runs that stop early")
 
@@ -258,8 +273,9 @@ def counts_of_run(asked, expected):
     translations = ruleset_of(asked.text, asked.interfaces).counts()[1]
     rules = [line for line in asking.lines_in(expected.out) if line.startswith(b"@")]
     kinds_of_rules = ("a translation", rules[:translations]), ("a rule", rules[translations:])
-    found = {f"{kind} that counts{' nothing' if line.endswith(b': counts no packet') else ''}"
+    found = {f"{kind} that counts{' nothing' if asking.COUNTS_NOTHING.search(line) else ''}"
              for kind, some in kinds_of_rules for line in some}
+    found |= {"a rule that is shadowed"} if asking.marked(expected.out) else set()
     return Counter(found) + Counter({"runs on several interfaces": len(asked.interfaces) > 1})
 
 
@@ -294,8 +310,10 @@ def compare_model():
         model_rows(comparison)
     with part("made-up endings of faults", None, results) as comparison:
         judged.compare(comparison)
+    found = in_processes(deciding.case_at, None, deciding.RULESETS)
+    results.append(told("packets near the rules of drawn rulesets", found, deciding.SEEN))
     found = in_processes(drawn_case_by_model, None, MODEL_DRAWN)
-    results.append(told("drawn rulesets, by the model", found, (*ENDED, *kinds.OF_RULES), DRAWN_EACH))
+    results.append(told_of_drawn("drawn rulesets, by the model", found))
     found = in_processes(after_run_by_model, None, MODEL_RUNS)
     results.append(told("counters of random runs, by the models", found, IN_RUNS, RUNS_EACH))
     return any(results)
@@ -312,7 +330,7 @@ def compare(program, drawn=DRAWN, runs=RUNS):
     with part("rulesets and counters with a fault at each call", program, results) as comparison:
         faults(comparison)
     found = in_processes(drawn_case, program, drawn)
-    results.append(told("drawn rulesets", found, (*ENDED, *kinds.OF_RULES), DRAWN_EACH))
+    results.append(told_of_drawn("drawn rulesets", found))
     found = in_processes(after_run, program, runs)
     results.append(told("counters of random runs", found, IN_RUNS, RUNS_EACH))
     return any(results)

@@ -7,7 +7,8 @@ in the folder `tests` prints the rules of a text for some interfaces. Without an
 
 The model of the expansion says which flat rules a text makes. Here each of them is written in the words of pf.conf(5),
 with its number and its line. Rules of translation come first, by their numbers. Anchors stand round filter rules. The
-counters of a run say how often each rule was visited, and which packets count for it.
+counters of a run say how often each rule was visited, and which packets count for it. Behind a filter rule that never
+decides it is said by which one it is shadowed.
 """
 
 import re
@@ -27,6 +28,7 @@ from rulesets.tree import ANY, Network, Range
 from rulesets.words import FLAG_LETTERS, ICMP_TYPES, PROTOCOLS
 from runs.model import Outcome, refused
 from steps.replay import ruleset_of
+from telling.shadows import shadows_of
 
 ACTIONS = {"pass": "pass", "drop": "block drop", "return": "block return"}
 PROTOCOL_NAMES = {number: name for name, number in PROTOCOLS.items()}
@@ -201,11 +203,22 @@ def counted(octets, filters, translations):
     return found[:filters], found[filters:-1]
 
 
-def note_of(counts, may_count=True):
-    """What stands behind a rule, which no packet counts for if it translates nothing."""
-    evaluations, packets, octets = counts
-    nothing = "" if packets or not may_count else ": counts no packet"
-    return f"  # {evaluations} evaluations, {packets} packets, {octets} bytes{nothing}"
+# What stands behind a rule
+
+def remarks_of(counts, may_count, shadow):
+    """What is said of a rule in words: no packet counts for it, or another rule decides in its place."""
+    if counts is not None and may_count:
+        _, packets, _ = counts
+        yield from [] if packets else ["counts no packet"]
+    yield from [] if shadow is None else [f"shadowed by @{shadow}"]
+
+
+def note_of(counts=None, may_count=True, shadow=None):
+    """What stands behind a rule, which no packet counts for if it translates nothing. There may be no counts."""
+    remarks = ", ".join(remarks_of(counts, may_count, shadow))
+    numbers = "" if counts is None else "{} evaluations, {} packets, {} bytes".format(*counts)
+    words = ": ".join(part for part in (numbers, remarks) if part)
+    return f"  # {words}" if words else ""
 
 
 # Lines
@@ -238,14 +251,14 @@ def filter_lines(rules, notes):
 def lines_of(ruleset, counters=None):
     """All that is printed of a ruleset, without the ends of lines."""
     translations = translations_of(ruleset)
-    notes = [""] * len(ruleset.rules.filter), [""] * len(translations)
+    filter_counts, counts = [None] * len(ruleset.rules.filter), [None] * len(translations)
     if counters is not None:
-        filter_counts, counts = counted(counters, *map(len, notes))
-        notes = (list(map(note_of, filter_counts)),
-                 [note_of(each, rule.target is not None) for each, (_, rule) in zip(counts, translations)])
-    for (kind, rule), note in zip(translations, notes[1]):
+        filter_counts, counts = counted(counters, len(filter_counts), len(counts))
+    for (kind, rule), numbers in zip(translations, counts):
+        note = note_of(numbers, may_count=rule.target is not None)
         yield f"@{rule.number} L{rule.line} {translation_words(kind, rule)}{note}"
-    yield from filter_lines(ruleset.rules, notes[0])
+    notes = [note_of(numbers, shadow=shadow) for numbers, shadow in zip(filter_counts, shadows_of(ruleset))]
+    yield from filter_lines(ruleset.rules, notes)
 
 
 def answer(asked):

@@ -5,7 +5,7 @@ with 203.0.113.2/24 and em2 with 198.18.0.1/15.
 """
 
 from expansions.hosts import Interface
-from telling import rows_counters, rows_lists
+from telling import rows_counters, rows_lists, rows_shadows
 from telling.row import EM0, EM1, THREE, TWO, alone, fault, told
 
 # Single rules: a text, and what is printed of the rule on its last line
@@ -369,3 +369,4 @@ def rows():
     for text, said in REFUSED:
         yield fault(text, said)
     yield from rows_counters.rows()
+    yield from rows_shadows.rows()

@@ -7,6 +7,7 @@ A line is that of the file. If a rule stands in another file, it is the line on 
 from typing import NamedTuple
 
 from telling.row import ONE, Row, fault
+from telling.rows_shadows import MOST_RULES, many_printed, many_rules
 
 
 class Adapted(NamedTuple):
@@ -45,9 +46,11 @@ def word_rows():
     yield adapted("scrub in all\npass in proto tcp modulate state", "pass in proto tcp",
                   "@0 L2 pass in proto tcp all keep state")
     yield adapted("block return-rst in\npass inet6\npass out user root\nblock label a label b",
-                  "block return in\nblock label a", "@0 L1 block return in all", '@1 L4 block drop all label "a"')
+                  "block return in\nblock label a", "@0 L1 block return in all  # shadowed by @1",
+                  '@1 L4 block drop all label "a"')
     yield adapted("set optimization aggressive\npass keep state (sloppy)\npass keep state (max 5, pflow)",
-                  "pass\npass keep state (max 5)", "@0 L2 pass all keep state", "@1 L3 pass all keep state (max 5)")
+                  "pass\npass keep state (max 5)", "@0 L2 pass all keep state",
+                  "@1 L3 pass all keep state (max 5)")
     yield adapted("pass proto carp\npass proto tcp to port imaps\npass proto icmp icmp-type timereq",
                   "pass proto 112\npass proto tcp to port 993\npass proto icmp icmp-type 13",
                   "@0 L1 pass proto 112 all keep state", "@1 L2 pass proto tcp from any to any port = 993 keep state",
@@ -57,7 +60,7 @@ def word_rows():
     yield adapted("table <bad-hosts>\nblock from <bad-hosts>", "table <bad_hosts>\nblock from <bad_hosts>",
                   "@0 L2 block drop from <bad_hosts> to any")
     yield adapted("match all\nanchor x {\npass tag y\nscrub\nblock\n}\npass", "anchor {\npass\nblock\n}\npass",
-                  "anchor all {", "@0 L3   pass all keep state", "@1 L5   block drop all", "}",
+                  "anchor all {", "@0 L3   pass all keep state  # shadowed by @1", "@1 L5   block drop all", "}",
                   "@2 L7 pass all keep state")
     yield adapted("scrub in\nblock", "block",
                   "@0 L2 block drop all  # 5 evaluations, 0 packets, 0 bytes: counts no packet",
@@ -77,21 +80,23 @@ def line_rows():
                   '@1 L1 block drop in quick inet from 192.0.2.1 to any label "spoof"',
                   '@2 L1 block drop in quick on ! lo0 inet from 127.0.0.0/8 to any label "spoof"',
                   "@3 L4 block drop all")
-    yield adapted("pass in \\\n  tag x \\\n  to any\nblock", "pass in to any\nblock", "@0 L1 pass in all keep state",
-                  "@1 L4 block drop all")
+    yield adapted("pass in \\\n  tag x \\\n  to any\nblock", "pass in to any\nblock",
+                  "@0 L1 pass in all keep state  # shadowed by @1", "@1 L4 block drop all")
     yield adapted("rdr proto tcp to port 80 -> { 10.0.0.5,\n 10.0.0.6 }\npass",
                   "rdr proto tcp to port 80 -> 10.0.0.5\npass",
                   "@0 L1 rdr inet proto tcp from any to any port = 80 -> 10.0.0.5", "@0 L3 pass all keep state")
     yield adapted('p = "{ imaps, \\\n smtps }"\npass proto tcp to port $p\nblock',
                   "pass proto tcp to port { 993 465 }\nblock",
-                  "@0 L3 pass proto tcp from any to any port = 993 keep state",
-                  "@1 L3 pass proto tcp from any to any port = 465 keep state", "@2 L4 block drop all")
+                  "@0 L3 pass proto tcp from any to any port = 993 keep state  # shadowed by @2",
+                  "@1 L3 pass proto tcp from any to any port = 465 keep state  # shadowed by @2",
+                  "@2 L4 block drop all")
 
 
 def surrounded_rows():
     """Texts with surroundings."""
     yield adapted("pass to { web,\n10.0.0.9 }\nblock", "pass to { 10.0.0.5, 10.0.0.9 }\nblock",
-                  "@0 L1 pass inet from any to 10.0.0.5 keep state", "@1 L1 pass inet from any to 10.0.0.9 keep state",
+                  "@0 L1 pass inet from any to 10.0.0.5 keep state  # shadowed by @2",
+                  "@1 L1 pass inet from any to 10.0.0.9 keep state  # shadowed by @2",
                   "@2 L3 block drop all", flags=("--hosts", "known"), known="10.0.0.5 web\n")
     yield adapted("pass proto tcp to port backup", "pass proto tcp to port 7777",
                   "@0 L1 pass proto tcp from any to any port = 7777 keep state", flags=("--services", "known"),
@@ -108,22 +113,51 @@ def surrounded_rows():
 
 def included_rows():
     yield included('pass in\ninclude "more"\npass out', "pass in\nblock\npass to port 80\npass out",
-                   "@0 L1 pass in all keep state", "@1 L2 block drop all",
+                   "@0 L1 pass in all keep state  # shadowed by @1", "@1 L2 block drop all",
                    "@2 L2 pass from any to any port = 80 keep state", "@3 L3 pass out all keep state",
                    more="\nblock\n\npass to port 80\n")
     # a file that is named by another one has the line of that one
     yield included('pass in\n\ninclude "more"\npass out', "pass in\nblock return\nblock\npass out",
-                   "@0 L1 pass in all keep state", "@1 L3 block return all", "@2 L3 block drop all",
+                   "@0 L1 pass in all keep state  # shadowed by @1", "@1 L3 block return all  # shadowed by @2",
+                   "@2 L3 block drop all",
                    "@3 L4 pass out all keep state", more='\ninclude "other"\nblock\n', other="\n\nblock return\n")
     yield included('include "first"\nblock\ninclude "second"', "nat -> em0\npass in\nblock\npass out",
-                   "@0 L1 nat inet all -> 192.0.2.1", "@0 L1 pass in all keep state", "@1 L2 block drop all",
-                   "@2 L3 pass out all keep state", first="nat -> em0\npass in\n", second="pass out")
+                   "@0 L1 nat inet all -> 192.0.2.1", "@0 L1 pass in all keep state  # shadowed by @1",
+                   "@1 L2 block drop all", "@2 L3 pass out all keep state", first="nat -> em0\npass in\n",
+                   second="pass out")
     yield included('include "more"\npass from $clients', "pass from { 10.0.0.1, 10.0.0.2 }",
                    "@0 L2 pass inet from 10.0.0.1 to any keep state", "@1 L2 pass inet from 10.0.0.2 to any keep state",
                    more='clients = "{ 10.0.0.1, 10.0.0.2 }"\n')
     yield included('anchor x\n\nload anchor x from "more"\nblock', "anchor {\npass\npass out\n}\nblock",
-                   "anchor all {", "@0 L1   pass all keep state", "@1 L1   pass out all keep state", "}",
+                   "anchor all {", "@0 L1   pass all keep state  # shadowed by @2",
+                   "@1 L1   pass out all keep state  # shadowed by @2", "}",
                    "@2 L4 block drop all", more="pass\npass out\n")
+
+
+def shadowed_rows():
+    """Rules that are shadowed, or aren't, in texts as they are written."""
+    yield adapted("scrub in\nblock log (all) quick proto udp\npass in proto udp to port imaps modulate state",
+                  "block quick proto udp\npass in proto udp to port 993", "@0 L2 block drop quick proto udp all",
+                  "@1 L3 pass in proto udp from any to any port = 993 keep state  # shadowed by @0")
+    # a rule that is left out shadows none
+    yield adapted("block quick inet6\nblock", "block", "@0 L2 block drop all")
+    yield adapted("table <bad> file \"/etc/bad\"\nblock quick from <bad>\npass from { 10.0.0.1 10.0.0.2 }",
+                  "table <bad> { 10.0.0.1 }\nblock quick from <bad>\npass from { 10.0.0.1 10.0.0.2 }",
+                  "@0 L2 block drop quick from <bad> to any",
+                  "@1 L3 pass inet from 10.0.0.1 to any keep state  # shadowed by @0",
+                  "@2 L3 pass inet from 10.0.0.2 to any keep state", flags=("--table", "bad=listed"),
+                  listed="10.0.0.1\n")
+    # a file that is loaded into a quick anchor
+    yield included('anchor x quick\nload anchor x from "more"\nblock', "anchor quick {\nblock in\nblock\n}\nblock",
+                   "anchor quick all {", "@0 L1   block drop in all  # shadowed by @1", "@1 L1   block drop all", "}",
+                   "@2 L3 block drop all", more="block in\nblock\n")
+    yield adapted("scrub in\nblock quick\nblock", "block quick\nblock",
+                  "@0 L2 block drop quick all  # 5 evaluations, 5 packets, 140 bytes",
+                  "@1 L3 block drop all  # 0 evaluations, 0 packets, 0 bytes: counts no packet, shadowed by @0",
+                  counters="filter 0 5 5 140\nfilter 1 0 0 0\ntotal 5 0 5 0 0\n")
+    for count in (MOST_RULES, MOST_RULES + 1):
+        rules = many_rules(count)
+        yield adapted(f"scrub in # {count} rules\n{rules}", rules, *many_printed(count, 2))
 
 
 def refused_rows():
@@ -135,5 +169,5 @@ def refused_rows():
 
 
 def rows():
-    for group in (word_rows, line_rows, surrounded_rows, included_rows, refused_rows):
+    for group in (word_rows, line_rows, surrounded_rows, included_rows, shadowed_rows, refused_rows):
         yield from group()

@@ -29,11 +29,13 @@ def list_rows():
 
 def element_rows():
     """Each of the rules says what it asks itself."""
-    yield told("block from { any, 10.0.0.1, ! 10.0.0.0/8, any } to any", f"@0 L1 {BLOCK}",
-               "@1 L1 block drop inet from 10.0.0.1 to any", "@2 L1 block drop inet from ! 10.0.0.0/8 to any",
-               f"@3 L1 {BLOCK}")
+    # the last one asks nothing, and comes to decide in the place of all others
+    yield told("block from { any, 10.0.0.1, ! 10.0.0.0/8, any } to any", f"@0 L1 {BLOCK}  # shadowed by @3",
+               "@1 L1 block drop inet from 10.0.0.1 to any  # shadowed by @3",
+               "@2 L1 block drop inet from ! 10.0.0.0/8 to any  # shadowed by @3", f"@3 L1 {BLOCK}")
+    # the table has no entry, so all that isn't in it is every address
     yield told("table <t>\nblock to { <t>, em0, !<t> }", "@0 L2 block drop from any to <t>",
-               "@1 L2 block drop inet from any to 192.0.2.1", "@2 L2 block drop from any to ! <t>")
+               "@1 L2 block drop inet from any to 192.0.2.1  # shadowed by @2", "@2 L2 block drop from any to ! <t>")
     yield told("block on { em0, !em1 lo0 }", "@0 L1 block drop on em0 all", "@1 L1 block drop on ! em1 all",
                "@2 L1 block drop on lo0 all")
     yield told("pass proto icmp icmp-type { echoreq, unreach code 4, 11 13 }",
@@ -48,8 +50,9 @@ def macro_rows():
     yield told('p = "{ 80, 443 }"\npass in proto tcp to port $p',
                "@0 L2 pass in proto tcp from any to any port = 80 keep state",
                "@1 L2 pass in proto tcp from any to any port = 443 keep state")
+    # that what isn't 10.0.0.2 holds 10.0.0.1 too
     yield told('a = "10.0.0.1"\nb = "{" $a "! 10.0.0.2 }"\n\nblock from { any $b }\na = "10.0.0.9"\nblock from $a',
-               f"@0 L4 {BLOCK}", "@1 L4 block drop inet from 10.0.0.1 to any",
+               f"@0 L4 {BLOCK}", "@1 L4 block drop inet from 10.0.0.1 to any  # shadowed by @2",
                "@2 L4 block drop inet from ! 10.0.0.2 to any", "@3 L6 block drop inet from 10.0.0.9 to any")
     yield told('w = "{ tcp udp }"\ni = em1\nblock on $i proto $w\nblock on !$i proto { icmp $w }',
                "@0 L3 block drop on em1 proto tcp all", "@1 L3 block drop on em1 proto udp all",
@@ -59,16 +62,20 @@ def macro_rows():
 
 def line_rows():
     """The line is that of a rule's first word."""
-    yield told("\n# a comment\n\npass # and another one\n\n\nblock\n\n", f"@0 L4 {PASS}", f"@1 L7 {BLOCK}")
+    yield told("\n# a comment\n\npass # and another one\n\n\nblock\n\n", f"@0 L4 {PASS}  # shadowed by @1",
+               f"@1 L7 {BLOCK}")
     yield told("pass \\\n  in \\\n  quick\nblock", "@0 L1 pass in quick all keep state", f"@1 L4 {BLOCK}")
     yield told("block from { 10.0.0.1,\n  10.0.0.2\n}\npass", "@0 L1 block drop inet from 10.0.0.1 to any",
                "@1 L1 block drop inet from 10.0.0.2 to any", f"@2 L4 {PASS}")
-    yield told("# one \\\n still the comment\npass\r\n\tblock\r", f"@0 L3 {PASS}", f"@1 L4 {BLOCK}")
+    yield told("# one \\\n still the comment\npass\r\n\tblock\r", f"@0 L3 {PASS}  # shadowed by @1", f"@1 L4 {BLOCK}")
     yield told("x = \"a \\\n b\"\npass", f"@0 L3 {PASS}")
     # the end of a line in a label is shown as a blank
-    yield told('pass label "a\\\nb"\nblock', f'@0 L1 {PASS} label "a b"', f"@1 L3 {BLOCK}")
+    yield told('pass label "a\\\nb"\nblock', f'@0 L1 {PASS} label "a b"  # shadowed by @1', f"@1 L3 {BLOCK}")
     yield told("pass", f"@0 L1 {PASS}")
-    yield told("\n" * 9 + "pass\n" * 12, *(f"@{number} L{number + 10} {PASS}" for number in range(12)))
+    # of equal rules that aren't quick the next one is the first behind a rule
+    yield told("\n" * 9 + "pass\n" * 12,
+               *(f"@{number} L{number + 10} {PASS}  # shadowed by @{number + 1}" for number in range(11)),
+               f"@11 L21 {PASS}")
 
 
 # Anchors
@@ -85,7 +92,7 @@ def anchor_rows():
                '@1 L7   pass quick inet proto tcp from any to 10.0.0.5 port = 8080 keep state label "web"', "}",
                "@2 L9 block drop out all")
     yield told("block\nanchor out quick {\npass\nblock\n}\npass", f"@0 L1 {BLOCK}", "anchor out quick all {",
-               f"@1 L3   {PASS}", f"@2 L4   {BLOCK}", "}", f"@3 L6 {PASS}")
+               f"@1 L3   {PASS}  # shadowed by @2", f"@2 L4   {BLOCK}", "}", f"@3 L6 {PASS}")
     yield told('table <t>\nanchor "a/b" in quick on !em1 inet proto udp from <t> to !em0 port 53 {\n\npass\n\n}',
                "anchor in quick on ! em1 inet proto udp from <t> to ! 192.0.2.1 port = 53 {", f"@0 L4   {PASS}", "}")
     yield told("anchor quick {\nblock\n}\nanchor {\nblock\n}", "anchor quick all {", f"@0 L2   {BLOCK}", "}",
@@ -93,9 +100,9 @@ def anchor_rows():
 
 
 def nested_rows():
-    yield told("anchor in {\npass\nanchor out {\nblock\n}\npass quick\n}\nblock", "anchor in all {", f"@0 L2   {PASS}",
-               "  anchor out all {", f"@1 L4     {BLOCK}", "  }", "@2 L6   pass quick all keep state", "}",
-               f"@3 L8 {BLOCK}")
+    yield told("anchor in {\npass\nanchor out {\nblock\n}\npass quick\n}\nblock", "anchor in all {",
+               f"@0 L2   {PASS}  # shadowed by @2", "  anchor out all {", f"@1 L4     {BLOCK}  # shadowed by @3", "  }",
+               "@2 L6   pass quick all keep state", "}", f"@3 L8 {BLOCK}")
     # anchors that begin and end at the same rule
     yield told("anchor on em0 {\nanchor proto tcp {\nanchor quick {\npass\n}\n}\n}", "anchor on em0 all {",
                "  anchor proto tcp all {", "    anchor quick all {", f"@0 L4       {PASS}", "    }", "  }", "}")
@@ -105,8 +112,9 @@ def nested_rows():
     yield told(DEEP, *(f"{'  ' * depth}anchor all {{" for depth in range(16)), f"@0 L17 {'  ' * 16}{PASS}",
                *(f"{'  ' * depth}}}" for depth in reversed(range(16))))
     # of lists each combination has the whole body
-    yield told("anchor on { em0, !em1 } {\npass\nblock\n}", "anchor on em0 all {", f"@0 L2   {PASS}",
-               f"@1 L3   {BLOCK}", "}", "anchor on ! em1 all {", f"@2 L2   {PASS}", f"@3 L3   {BLOCK}", "}")
+    yield told("anchor on { em0, !em1 } {\npass\nblock\n}", "anchor on em0 all {",
+               f"@0 L2   {PASS}  # shadowed by @1", f"@1 L3   {BLOCK}", "}", "anchor on ! em1 all {",
+               f"@2 L2   {PASS}  # shadowed by @3", f"@3 L3   {BLOCK}", "}")
     yield told("block\nanchor proto { tcp, udp } {\npass to port { 1 2 }\n"
                "anchor from { 10.0.0.1, 10.0.0.2 } {\nblock\n}\n}",
                f"@0 L1 {BLOCK}",
@@ -126,8 +134,8 @@ def empty_rows():
                  "anchor in on { em0 em1 } {\n}", "anchor {\nanchor {\n\n# nothing\n}\nanchor b\n}",
                  'nat-anchor "ftp-proxy/*"\nrdr-anchor "ftp-proxy/*"\nbinat-anchor a'):
         yield told(text)
-    yield told("anchor a\npass\nanchor {\n}\nblock\nanchor {\nanchor quick {\n}\npass\nanchor b\n}", f"@0 L2 {PASS}",
-               f"@1 L5 {BLOCK}", "anchor all {", f"@2 L9   {PASS}", "}")
+    yield told("anchor a\npass\nanchor {\n}\nblock\nanchor {\nanchor quick {\n}\npass\nanchor b\n}",
+               f"@0 L2 {PASS}  # shadowed by @1", f"@1 L5 {BLOCK}", "anchor all {", f"@2 L9   {PASS}", "}")
 
 
 def rows():

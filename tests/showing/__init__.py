@@ -1,0 +1,1 @@
+"""The program's command `show`: each packet of a capture with what a run said of it."""
