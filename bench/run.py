@@ -20,7 +20,8 @@ from make_capture import write_capture
 
 ROOT = Path(__file__).resolve().parent.parent
 PROGRAM = ROOT / "crates" / "pfr_cli" / "out" / "pfr_cli"
-FLAGS = ("--interface", "em0", "--address", "192.0.2.1/24", "--inside", "10.0.0.0/8")
+INTERFACE = ("--interface", "em0", "--address", "192.0.2.1/24")
+FLAGS = (*INTERFACE, "--inside", "10.0.0.0/8")
 OUTPUTS = ("verdicts", "packets", "counters", "states")
 # the ruleset and the filter pass the same packets
 RULES = "block in all\npass in from 198.51.100.0/24 to any no state\npass out all no state\n"

@@ -6,6 +6,7 @@ _pfreplay_flags() {
     local ways='--inside --mac --tap'
     local surroundings='--interface-address --group --hosts --services --table --include'
     local outputs='--verdicts --packets --counters --states --messages --peer'
+    local choices='--only --rule --line --host --logged'
     case $1 in
         run) echo "--help $ruleset --adapt $surroundings $ways $outputs --seed --batch --workers --warn" ;;
         check) echo "--help $ruleset --adapt $surroundings" ;;
@@ -14,6 +15,7 @@ _pfreplay_flags() {
         states) echo '--help --json' ;;
         rules) echo "--help $ruleset --adapt $surroundings --counters" ;;
         diff) echo "--help $ruleset --adapt $surroundings $ways --seed --verdicts" ;;
+        show) echo "--help $ruleset --adapt $surroundings $choices --count --format" ;;
         '') echo '--help --version' ;;
     esac
 }
@@ -21,6 +23,13 @@ _pfreplay_flags() {
 # Answers those of some words that begin with what stands at the cursor.
 _pfreplay_words() {
     mapfile -t COMPREPLY < <(compgen -W "$1" -- "$2")
+}
+
+# Answers those of some words that begin with what stands behind the last comma, each behind what stands before it.
+_pfreplay_listed() {
+    local before=
+    [[ $2 != *,* ]] || before=${2%,*},
+    mapfile -t COMPREPLY < <(compgen -P "$before" -W "$1" -- "${2##*,}")
 }
 
 # Answers files whose names begin with a text, each behind what stands before it in the same word.
@@ -33,11 +42,11 @@ _pfreplay_files() {
     done
 }
 
-# Answers the files that stand behind the name and the address of an interface, two for `run` and one for `diff`: the
-# command, the value so far, and the part of it that bash takes for a word.
+# Answers the files that stand behind the name and the address of an interface, two for `run`, and one for `diff` and
+# `show`: the command, the value so far, and the part of it that bash takes for a word.
 _pfreplay_also() {
     case $1:${2//[^,]/} in
-        run:,, | run:,,, | diff:,,) _pfreplay_files "${3##*,}" "${3%,*}," ;;
+        run:,, | run:,,, | diff:,, | show:,,) _pfreplay_files "${3##*,}" "${3%,*}," ;;
     esac
 }
 
@@ -51,14 +60,16 @@ _pfreplay_value() {
         --table | --include) [[ $3 != *=* ]] || _pfreplay_files "$4" ;;
         --also) _pfreplay_also "$1" "$3" "$4" ;;
         --tap) _pfreplay_words 'stack wire' "$4" ;;
+        --format) _pfreplay_words 'text json pflog' "$4" ;;
+        --only) _pfreplay_listed 'pass block return skip' "$4" ;;
         --interface | --address | --inside | --mac | --seed | --batch | --workers | --peer | --listen) ;;
-        --interface-address | --group) ;;
+        --interface-address | --group | --rule | --line | --host) ;;
         *) return 1 ;;
     esac
 }
 
 _pfreplay() {
-    local commands='run check adapt standby states rules diff help'
+    local commands='run check adapt standby states rules diff show help'
     local word=${COMP_WORDS[COMP_CWORD]} command=${COMP_WORDS[1]} place=$((COMP_CWORD - 1))
     local value=$word
     COMPREPLY=()
@@ -76,7 +87,7 @@ _pfreplay() {
     _pfreplay_value "$command" "${COMP_WORDS[place]}" "${value#=}" "$word" && return
     case $command in
         help) ((COMP_CWORD > 2)) || _pfreplay_words "${commands% help}" "$word" ;;
-        run | check | adapt | standby | states | rules | diff)
+        run | check | adapt | standby | states | rules | diff | show)
             if [[ $word == -* ]]; then
                 _pfreplay_words "$(_pfreplay_flags "$command")" "$word"
             elif [[ $command != standby ]]; then
