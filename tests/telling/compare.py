@@ -39,10 +39,17 @@ MODEL_DRAWN, MODEL_RUNS = 3000, 60
 # how many cases there are at most for each time that a thing comes up
 DRAWN_EACH, RUNS_EACH = 400, 100
 UNWRITTEN = failed("write failed: standard output")
-MANY_HOSTS = 40
+MANY_HOSTS, SOME_HOSTS = 40, 12
+
+
+def rules_between(hosts):
+    """A ruleset with a rule from each of so many hosts to each."""
+    return (f"table <t>\npass from {{ {addresses(hosts)} }} to {{ {addresses(hosts)} }}\nanchor quick {{\n"
+            "block from <t>\n}\n").encode()
+
+
 # so many lines are written in several pieces
-MANY = (f"table <t>\npass from {{ {addresses(MANY_HOSTS)} }} to {{ {addresses(MANY_HOSTS)} }}\nanchor quick {{\n"
-        "block from <t>\n}\n").encode()
+MANY = rules_between(MANY_HOSTS)
 OF_EACH_KIND = (b't = "{ tcp udp }"\ntable <t> { 10.0.0.1 }\nno binat all\nrdr -> em0 port 5\n'
                 b'anchor on { em0 em1 } {\npass proto $t from <t> to 10.0.0.0/8 label "a" keep state (max 5)\n}\n')
 TOGETHER = b"block from self\npass to em1 label \"web\"\n"
@@ -220,7 +227,7 @@ def faults(comparison):
             ("rules of each kind", Asked(OF_EACH_KIND)), ("two interfaces", Asked(TOGETHER, TWO)),
             ("counters", counted), ("refused counters", counted._replace(counters=counted.counters[:-1])),
             ("a refused ruleset", Asked(b"pass\npass from nowhere\n")), ("no rule", Asked(b"")),
-            ("many rules", Asked(MANY))):
+            ("some rules", Asked(rules_between(SOME_HOSTS)))):
         print(f"rules, {name}", flush=True)
         words = words_of(comparison, asked)
         comparison.expect(f"{name}, with faults", True, ends_lawfully("rules", [comparison.program, *words]))
