@@ -104,7 +104,7 @@ def faults(comparison):
 # Other readers
 
 def long_case(kind, count):
-    """A random run of so many packets, on one interface or several, some of whose rules log."""
+    """A random run with this number of packets, on one interface or several, some of whose rules log."""
     draw, counts = random.Random(f"{cases.SEED} {count} {kind}"), (count, count)
     make = {"one": lambda: steps.random_runs.some_run(draw, 0, count, counts),
             "translation": lambda: steps.translation_runs.some_run(draw, 0, count, draw.randbytes(32), counts),

@@ -109,7 +109,7 @@ WITHOUT_RULE = (("in pass default r=- t=- s=-", KNOCK, 0), ("in pass nat-pass r=
 
 
 def counted(name, rules, frames, verdicts, found, **asked):
-    """A row of how many packets are asked for."""
+    """A row in which the packets that are asked for are counted."""
     return Row(name, question_of(rules, capture_of(*frames), verdicts_of(*verdicts), COUNT, **asked),
                text_of(f"{found} of {len(frames)} packets"))
 

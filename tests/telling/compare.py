@@ -43,7 +43,7 @@ MANY_HOSTS, SOME_HOSTS = 40, 12
 
 
 def rules_between(hosts):
-    """A ruleset with a rule from each of so many hosts to each."""
+    """A ruleset with a rule for each pair of this number of hosts."""
     return (f"table <t>\npass from {{ {addresses(hosts)} }} to {{ {addresses(hosts)} }}\nanchor quick {{\n"
             "block from <t>\n}\n").encode()
 
