@@ -20,4 +20,4 @@ mod source;
 pub use files::Refusal;
 pub use flag::{Flag, FlagKind, network_of};
 pub use prepared::Prepared;
-pub use preparing::{Request, prepared_text, say_faults};
+pub use preparing::{Request, held_text, prepared_from, prepared_text, say_faults};

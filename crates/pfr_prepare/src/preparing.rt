@@ -27,19 +27,40 @@ pub struct Request<'a> {
     pub flags: Items<Flag<'a>>,
 }
 
-/// The text of a ruleset's file as it is to be read. If it is rewritten, all that is said of it but its faults goes to `err`.
+/// What a ruleset's file holds.
 ///
 /// Of a file that has more than 1048576 bytes one more is read, so that this shows.
+pub fn held_text<'a, R: Files + AllocGlobal>(
+    rt: &R,
+    request: &Request<'a>,
+) -> Result<Items<u8>, Refusal<'a>> {
+    file_text(rt, request.name, MOST_OF_TEXT)
+}
+
+/// The text of a ruleset as it is to be read, if its file holds this. If it is rewritten, all that is said of it but its faults goes to
+/// `err`.
+pub fn prepared_from<'a, R: Files + AllocGlobal, E: Write>(
+    rt: &R,
+    request: &Request<'a>,
+    text: Items<u8>,
+    err: &mut E,
+) -> Result<Prepared, Refusal<'a>> {
+    if request.adapts {
+        return adapted_text(rt, request, text.as_slice(), err);
+    }
+    Ok(Prepared::of(rt.alloc(), text))
+}
+
+/// The text of a ruleset's file as it is to be read. If it is rewritten, all that is said of it but its faults goes to `err`.
 pub fn prepared_text<'a, R: Files + AllocGlobal, E: Write>(
     rt: &R,
     request: &Request<'a>,
     err: &mut E,
 ) -> Result<Prepared, Refusal<'a>> {
-    let text = file_text(rt, request.name, MOST_OF_TEXT)?;
-    if request.adapts {
-        return adapted_text(rt, request, text.as_slice(), err);
+    match held_text(rt, request) {
+        Ok(text) => prepared_from(rt, request, text, err),
+        Err(refusal) => Err(refusal),
     }
-    Ok(Prepared::of(rt.alloc(), text))
 }
 
 /// A ruleset's text rewritten, with the files that flags name.
