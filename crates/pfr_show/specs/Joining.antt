@@ -1,5 +1,5 @@
 -- Which packet and which line of verdicts are joined.
-use Rattle.std.specs.Prelude.{◌≡◌, ℕ, Bool, true, false, not, ◌&&◌, nat_lt, List, [], ◌∷◌, ◌++◌, Option, Some, None}
+use Rattle.std.specs.Prelude.{◌≡◌, ℕ, Bool, true, false, not, ◌&&◌, nat_lt, List, [], ◌∷◌, ◌++◌, length, Option, Some, None}
 use Rattle.pfr_headers.specs.declared.packet.View.{View}
 use Rattle.pfr_headers.specs.declared.packet.View.TheVariants.{Ipv4, Skip, Short}
 use Rattle.pfr_net.specs.declared.interface.InterfacePlace.{InterfacePlace}
@@ -12,6 +12,7 @@ use Rattle.pfr_packet.specs.declared.verdict.Verdict.{Verdict}
 use Rattle.pfr_packet.specs.declared.verdict.Verdict.TheVariants as verdict
 use Rattle.pfr_commit.specs.Lines.{verdict_line}
 use Rattle.pfr_show.specs.declared.joining.Met.{Met}
+use Rattle.pfr_show.specs.declared.joining.Run.{Run}
 
 abbrev pub is_not_ip : Reason → Bool
 is_not_ip reason.NotIp = true
@@ -68,11 +69,10 @@ place_of met = record { 0 = met.packet.now.place }
 abbrev pub IsWritten : List Interface → Met → (line : List ℕ) → Outcome → Type 0
 IsWritten interfaces met line outcome = verdict_line interfaces met.number met.clock (place_of met) outcome ≡ line ++ 10 ∷ []
 
--- A packet is joined with a line, by which it comes to this: in a run with these interfaces, and with so many filter and translation
--- rules.
-pub record Joins (interfaces : List Interface) (filters translations : ℕ) (met : Met) (line : List ℕ) (outcome : Outcome) : Type 0 where
-  pub written : IsWritten interfaces met line outcome
+-- A packet of a run is joined with a line, by which it comes to this.
+pub record Joins (run : Run) (met : Met) (line : List ℕ) (outcome : Outcome) : Type 0 where
+  pub written : IsWritten run.interfaces.now met line outcome
   pub reason_agrees : agree outcome.verdict outcome.reason ≡ true
   pub view_fits : fits met.view.now outcome.reason ≡ true
-  pub rule_there : is_there filters outcome.rule ≡ true
-  pub translation_there : is_there translations outcome.translation ≡ true
+  pub rule_there : is_there (length run.rules.now.filter.items) outcome.rule ≡ true
+  pub translation_there : is_there (length run.rules.now.translations.items) outcome.translation ≡ true

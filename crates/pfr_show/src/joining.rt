@@ -167,7 +167,7 @@ fn compare(
     line: &[u8],
     room: &mut Vec<u8>,
 ) -> Result<(), Misfit>
-    ensures { OnOk result (spec.Joins run.entry.interfaces.now (length run.entry.rules.now.filter.items) (length run.entry.rules.now.translations.items) met.entry line.now outcome.now) }
+    ensures { OnOk result (spec.Joins run.entry met.entry line.now outcome.now) }
 {
     if !agree(outcome.verdict, outcome.reason) {
         return Err(Misfit::NoLine);
@@ -183,22 +183,6 @@ fn compare(
     Ok(())
 }
 
-/// What a packet came to, by a line that is joined with it.
-fn joined(
-    run: Run<'_>,
-    met: Met<'_>,
-    outcome: Outcome,
-    line: &[u8],
-    room: &mut Vec<u8>,
-) -> Result<Outcome, Misfit>
-    ensures { IfOk result (spec.Joins run.entry.interfaces.now (length run.entry.rules.now.filter.items) (length run.entry.rules.now.translations.items) met.entry line.now) }
-{
-    match compare(run, met, &outcome, line, room) {
-        Ok(()) => Ok(outcome),
-        Err(misfit) => Err(misfit),
-    }
-}
-
 /// What a packet came to by the line of verdicts, without its newline, that a run wrote of it. `room` is room for what a run writes.
 pub fn join(
     alloc: Global,
@@ -207,10 +191,13 @@ pub fn join(
     line: &[u8],
     room: &mut Vec<u8>,
 ) -> Result<Outcome, Misfit>
-    ensures { IfOk result (spec.Joins run.entry.interfaces.now (length run.entry.rules.now.filter.items) (length run.entry.rules.now.translations.items) met.entry line.now) }
+    ensures { IfOk result (spec.Joins run.entry met.entry line.now) }
 {
-    match judged_in(alloc, line, room)? {
-        Some(judged) => joined(run, met, judged.outcome, line, room),
-        None => Err(Misfit::NoLine),
+    let Some(judged) = judged_in(alloc, line, room)? else {
+        return Err(Misfit::NoLine);
+    };
+    match compare(run, met, &judged.outcome, line, room) {
+        Ok(()) => Ok(judged.outcome),
+        Err(misfit) => Err(misfit),
     }
 }

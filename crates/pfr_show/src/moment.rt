@@ -72,14 +72,14 @@ fn append_digits(text: &mut Vec<u8>, number: u64, count: usize) -> Result<(), Al
 
 /// The last day that was told.
 #[derive(Drop)]
-pub(crate) struct Calendar {
+pub struct Calendar {
     day: u64,
     /// `YYYY-MM-DD`, or nothing before the first day is told.
     date: String,
 }
 
 impl Calendar {
-    pub(crate) fn new(alloc: Global) -> Calendar {
+    pub fn new(alloc: Global) -> Calendar {
         Calendar {
             day: 0,
             date: String::new(alloc),
@@ -103,9 +103,8 @@ impl Calendar {
         Ok(())
     }
 
-    /// Appends `YYYY-MM-DD hh:mm:ss.` and six digits, or nine if the capture counts nanoseconds.
-    pub(crate) fn append(&mut self, text: &mut Vec<u8>, moment: Moment) -> Result<(), AllocError> {
-        let seconds = moment.carried_seconds();
+    /// Appends `YYYY-MM-DD hh:mm:ss`, so many seconds behind the beginning of 1970.
+    pub fn append_second(&mut self, text: &mut Vec<u8>, seconds: u64) -> Result<(), AllocError> {
         self.turn(seconds / DAY)?;
         text.extend_from_slice(self.date.as_bytes())?;
         text.extend_from_slice(b" ")?;
@@ -113,7 +112,12 @@ impl Calendar {
         text.extend_from_slice(b":")?;
         append_digits(text, seconds % 3600 / 60, 2)?;
         text.extend_from_slice(b":")?;
-        append_digits(text, seconds % 60, 2)?;
+        append_digits(text, seconds % 60, 2)
+    }
+
+    /// Appends `YYYY-MM-DD hh:mm:ss.` and six digits, or nine if the capture counts nanoseconds.
+    pub(crate) fn append(&mut self, text: &mut Vec<u8>, moment: Moment) -> Result<(), AllocError> {
+        self.append_second(text, moment.carried_seconds())?;
         text.extend_from_slice(b".")?;
         let fraction = moment.carried_nanoseconds();
         if moment.is_fine {

@@ -1,61 +1,58 @@
 //! What is printed of packets, one after the other.
-use crate::joining::{Met, Misfit, Run, join};
+use crate::joining::{Met, Run};
 use crate::json::append_json;
 use crate::moment::{Calendar, Moment, is_fine};
 use crate::pflog::{append_opening, append_record};
 use crate::selection::Selection;
-use crate::showing::{Form, Stopped};
 use crate::shown::Shown;
 use crate::text::append_text;
+use crate::walking::{Stopped, Taker};
 use pfr_capture::{Record, Resolution, Sink, write_all};
-use pfr_headers::View;
 use pfr_packet::Outcome;
-use pfr_track::Clock;
 use std::alloc::{AllocError, Global};
-use std::io;
-use std::io::{BufRead, Read};
 
 /// How many bytes are printed at a time, and a packet more.
 const PIECE: usize = 65536;
 
-/// How many bytes a line of verdicts may have, with its newline: more than a run writes.
-const MOST_OF_LINE: u64 = 256;
+/// How packets are shown.
+#[derive(Clone, Copy)]
+pub enum Form {
+    /// A line for each.
+    Text,
+    /// An object of JSON for each, on a line of its own.
+    Json,
+    /// A capture as pflog(4) has it.
+    Pflog,
+    /// Nothing: they are counted.
+    Count,
+}
 
 /// What is asked of packets.
 #[derive(Clone, Copy)]
-pub(crate) struct Asked<'a> {
-    pub(crate) run: Run<'a>,
+pub struct Asked<'a> {
+    /// The run that they are joined with.
+    pub run: Run<'a>,
     /// The names of its interfaces, by their places.
-    pub(crate) names: &'a [&'a str],
-    pub(crate) selection: Selection,
-    pub(crate) form: Form,
+    pub names: &'a [&'a str],
+    /// Which of them are shown.
+    pub selection: Selection,
+    pub form: Form,
 }
 
-/// What was printed so far, and what is to be printed.
+/// Prints those packets that are selected into a sink, in the order in which it takes them.
 #[derive(Drop)]
-pub(crate) struct Printer<'a> {
+pub struct Printer<'a, K> {
     asked: Asked<'a>,
+    sink: &'a mut K,
     /// What the headers of the captures say, by their places.
     forms: Vec<pfr_capture::Form>,
     /// Whether what is printed counts nanoseconds.
     is_fine: bool,
-    clock: Clock,
     calendar: Calendar,
     /// How many packets were asked for.
-    pub(crate) shown: u64,
+    shown: u64,
     /// What isn't printed yet.
     text: Vec<u8>,
-    /// Room for a line of verdicts.
-    line: Vec<u8>,
-    /// Room for what a run writes.
-    room: Vec<u8>,
-}
-
-/// Reads the next line without its newline, and answers whether there is one.
-fn read_line<L: BufRead>(lines: &mut L, line: &mut Vec<u8>) -> io::Result<bool> {
-    line.clear();
-    lines.by_ref().take(MOST_OF_LINE).read_until(b'\n', line)?;
-    Ok(line.pop() == Some(b'\n'))
 }
 
 /// Whether one of these captures counts nanoseconds.
@@ -76,38 +73,28 @@ fn resolution_of(forms: &[pfr_capture::Form], packet: &Record) -> Resolution {
     }
 }
 
-impl<'a> Printer<'a> {
-    /// Prints packets of captures with these headers.
-    pub(crate) fn new(
-        alloc: Global,
-        asked: Asked<'a>,
-        forms: Vec<pfr_capture::Form>,
-    ) -> Printer<'a> {
-        let is_fine = is_one_fine(forms.as_slice());
+impl<'a, K: Sink> Printer<'a, K> {
+    /// Prints packets of captures into a sink.
+    pub fn new(alloc: Global, asked: Asked<'a>, sink: &'a mut K) -> Printer<'a, K> {
         Printer {
             asked,
-            forms,
-            is_fine,
-            clock: Clock(0),
+            sink,
+            forms: Vec::new(alloc),
+            is_fine: false,
             calendar: Calendar::new(alloc),
             shown: 0,
             text: Vec::new(alloc),
-            line: Vec::new(alloc),
-            room: Vec::new(alloc),
         }
     }
 
-    /// Begins what is printed.
-    pub(crate) fn begin(&mut self) -> Result<(), AllocError> {
-        match self.asked.form {
-            Form::Pflog => append_opening(&mut self.text, self.is_fine),
-            Form::Text | Form::Json | Form::Count => Ok(()),
-        }
+    /// How many packets it has shown, or counted.
+    pub fn shown(&self) -> u64 {
+        self.shown
     }
 
     /// Prints what isn't printed yet.
-    pub(crate) fn print<K: Sink>(&mut self, sink: &mut K) -> Result<(), Stopped> {
-        let printed = write_all(sink, self.text.as_slice());
+    fn print(&mut self) -> Result<(), Stopped> {
+        let printed = write_all(self.sink, self.text.as_slice());
         self.text.clear();
         match printed {
             Ok(()) => Ok(()),
@@ -149,75 +136,27 @@ impl<'a> Printer<'a> {
             None => Ok(()),
         }
     }
+}
 
-    /// Reads the line of the packet with this number, joins the two, and appends the packet if it is asked for.
-    fn take_one<L: BufRead>(
-        &mut self,
-        alloc: Global,
-        number: u64,
-        packet: &Record,
-        view: &View,
-        lines: &mut L,
-    ) -> Result<(), Stopped> {
-        if !read_line(lines, &mut self.line)? {
-            return Err(Stopped::Misfit(number, Misfit::NoLine));
-        }
-        self.clock = Clock(self.clock.0.max(packet.seconds));
-        let met = Met {
-            number,
-            clock: self.clock,
-            packet,
-            view,
-        };
-        match join(
-            alloc,
-            self.asked.run,
-            met,
-            self.line.as_slice(),
-            &mut self.room,
-        ) {
-            Ok(outcome) => Ok(self.append(met, &outcome)?),
-            Err(Misfit::Memory) => Err(Stopped::Memory),
-            Err(misfit) => Err(Stopped::Misfit(number, misfit)),
+impl<K: Sink> Taker for Printer<'_, K> {
+    fn begin(&mut self, forms: Vec<pfr_capture::Form>) -> Result<(), Stopped> {
+        self.is_fine = is_one_fine(forms.as_slice());
+        self.forms = forms;
+        match self.asked.form {
+            Form::Pflog => Ok(append_opening(&mut self.text, self.is_fine)?),
+            Form::Text | Form::Json | Form::Count => Ok(()),
         }
     }
 
-    /// Joins packets with the next lines, and prints those that are asked for, a piece at a time. The first one is the one behind so many.
-    fn take_each<L: BufRead, K: Sink>(
-        &mut self,
-        alloc: Global,
-        taken: u64,
-        packets: &[(Record, View)],
-        lines: &mut L,
-        sink: &mut K,
-    ) -> Result<(), Stopped> {
-        let mut number = taken;
-        for (packet, view) in packets {
-            number = number.saturating_add(1);
-            self.take_one(alloc, number, packet, view, lines)?;
-            if self.text.len() >= PIECE {
-                self.print(sink)?;
-            }
+    fn take(&mut self, met: Met<'_>, outcome: &Outcome) -> Result<(), Stopped> {
+        self.append(met, outcome)?;
+        if self.text.len() >= PIECE {
+            self.print()?;
         }
         Ok(())
     }
 
-    /// The same, and all that was appended is printed, also if a packet is no more joined with a line.
-    pub(crate) fn take<L: BufRead, K: Sink>(
-        &mut self,
-        alloc: Global,
-        taken: u64,
-        packets: &[(Record, View)],
-        lines: &mut L,
-        sink: &mut K,
-    ) -> Result<(), Stopped> {
-        let end = self.take_each(alloc, taken, packets, lines, sink);
-        self.print(sink)?;
-        end
+    fn rest(&mut self) -> Result<(), Stopped> {
+        self.print()
     }
-}
-
-/// Whether there is one line more.
-pub(crate) fn has_line<L: BufRead>(lines: &mut L) -> io::Result<bool> {
-    Ok(!lines.fill_buf()?.is_empty())
 }

@@ -1,6 +1,6 @@
 use Rattle.std.proofs.Common.{◌≡◌, ◌≤◌, ◌-◌, ◌^◌, length}
 use Rattle.pfr_merge.specs.MergeReading.{HasPassedOn, NoneRefused}
-use Rattle.pfr_show.proofs.showing.take_all.Given as goal
+use Rattle.pfr_show.proofs.walking.take_all.Given as goal
 
 abbrev pub invariant-turns : goal.invariant-turns
 invariant-turns g l =

@@ -1,6 +1,6 @@
 use Rattle.std.proofs.Common.{◌≡◌, length, arith}
 use Rattle.pfr_merge.proofs.CountLemmas.{passed_few}
-use Rattle.pfr_show.proofs.showing.take_turn.Goals as goal
+use Rattle.pfr_show.proofs.walking.take_turn.Goals as goal
 
 -- the captures have at most 2^43 records
 pub overflow_add-read : goal.overflow_add-read
