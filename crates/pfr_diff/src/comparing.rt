@@ -8,6 +8,7 @@ use crate::changes::Changes;
 use crate::decision::Meaning;
 use crate::side::Side;
 use pfr_capture::{Record, Source, Tail};
+use pfr_commit::{Gate, Unwatched};
 use pfr_feed::viewed;
 use pfr_headers::View;
 use pfr_listing::{first_line, judged_in};
@@ -115,8 +116,13 @@ fn gather<'a>(
 }
 
 impl<'a> Both<'a> {
-    /// Has both runs take packets, and compares what they write of them.
-    fn take(&mut self, alloc: Global, packets: &[(Record, View)]) -> Result<(), Stopped>
+    /// Has both runs take packets, and compares what they write of them. A gate is told what they come to in the new run.
+    fn take<G: Gate>(
+        &mut self,
+        alloc: Global,
+        packets: &[(Record, View)],
+        gate: &G,
+    ) -> Result<(), Stopped>
         requires views { All (λ packet. packet.1 ≡ view_of packet.0.link packet.0.bytes.items) packets.now }
         requires few_before { self.old.before.book.count + length packets.now ≤ 2 ^ 43 }
         requires few_after { self.old.after.book.count + length packets.now ≤ 2 ^ 43 }
@@ -124,8 +130,8 @@ impl<'a> Both<'a> {
         ensures after { OnOk result (self.new.after.book.count ≡ self.old.after.book.count + length packets.now) }
     {
         let taken = self.before.committed();
-        self.before.take(packets)?;
-        self.after.take(packets)?;
+        self.before.take(packets, &Unwatched)?;
+        self.after.take(packets, gate)?;
         gather(
             alloc,
             &self.before,
@@ -140,11 +146,12 @@ impl<'a> Both<'a> {
 }
 
 /// Has both runs take the packets of records, and gives the records back.
-fn take_records(
+fn take_records<G: Gate>(
     alloc: Global,
     merge: &mut Merge,
     both: &mut Both<'_>,
     records: Vec<Record>,
+    gate: &G,
 ) -> Result<(), Stopped>
     requires few { both.old.before.book.count + length records.items ≤ 2 ^ 43 }
     requires same { both.old.after.book.count ≡ both.old.before.book.count }
@@ -153,17 +160,18 @@ fn take_records(
     ensures same { OnOk result (both.new.after.book.count ≡ both.new.before.book.count) }
 {
     let packets = viewed(alloc, records)?;
-    both.take(alloc, packets.as_slice())?;
+    both.take(alloc, packets.as_slice(), gate)?;
     give_back(merge, packets);
     Ok(())
 }
 
 /// Reads the next packets of captures, and has both runs take them. If the reading has ended then, it answers how the captures end.
-fn take_turn<R: Source>(
+fn take_turn<R: Source, G: Gate>(
     alloc: Global,
     merge: &mut Merge,
     sources: &mut Sources<R>,
     both: &mut Both<'_>,
+    gate: &G,
 ) -> Result<Option<Tail>, Stopped>
     requires reading { NoneRefused merge.old }
     requires captures { (length sources.old ≡ length merge.old) × (length merge.old ≤ 8) }
@@ -180,11 +188,11 @@ fn take_turn<R: Source>(
     let end = sources.read_batch(merge, BATCH, &mut records);
     match end {
         None => {
-            take_records(alloc, merge, both, records)?;
+            take_records(alloc, merge, both, records, gate)?;
             Ok(None)
         }
         Some(Ok(tail)) => {
-            take_records(alloc, merge, both, records)?;
+            take_records(alloc, merge, both, records, gate)?;
             Ok(Some(tail))
         }
         Some(Err(refusal)) => {
@@ -195,11 +203,12 @@ fn take_turn<R: Source>(
 }
 
 /// Reads captures of which no record was given to their end, and has both runs take their packets.
-fn take_all<R: Source>(
+fn take_all<R: Source, G: Gate>(
     alloc: Global,
     mut merge: Merge,
     sources: &mut Sources<R>,
     both: &mut Both<'_>,
+    gate: &G,
 ) -> Result<Tail, Stopped>
     requires reading { NoneRefused merge }
     requires captures { (length sources.old ≡ length merge) × (length merge ≤ 8) }
@@ -207,7 +216,7 @@ fn take_all<R: Source>(
     requires same { both.old.after.book.count ≡ both.old.before.book.count }
 {
     'turns: loop {
-        if let Some(tail) = take_turn(alloc, &mut merge, sources, both)? {
+        if let Some(tail) = take_turn(alloc, &mut merge, sources, both, gate)? {
             return Ok(tail);
         }
     }
@@ -226,14 +235,15 @@ fn concluded<'a>(both: Both<'a>, end: Result<Tail, Stopped>) -> Result<Compared<
 }
 
 /// Has two runs that have taken no packet take the packets of captures, and gathers those of which they write something else, or
-/// another verdict alone.
-pub fn compare<'a, R: Source>(
+/// another verdict alone. A gate is told what the packets come to in the new one.
+pub fn compare<'a, R: Source, G: Gate>(
     alloc: Global,
     sources: &mut Sources<R>,
     old: Side,
     new: Side,
     told: BothTold<'a>,
     verdicts_alone: bool,
+    gate: &G,
 ) -> Result<Compared<'a>, Stopped>
     requires captures { length sources.old ≤ 8 }
     requires old { old.book.count ≡ 0 }
@@ -247,7 +257,7 @@ pub fn compare<'a, R: Source>(
         room: Vec::new(alloc),
     };
     let end = match sources.open(alloc) {
-        Ok(merge) => take_all(alloc, merge, sources, &mut both),
+        Ok(merge) => take_all(alloc, merge, sources, &mut both, gate),
         Err(refusal) => Err(Stopped::Reading(stop_for(refusal, 0))),
     };
     concluded(both, end)

@@ -6,7 +6,7 @@ ghost use Rattle.pfr_commit.specs.Books.{LeadsOn, StandsAt, after_packets};
 ghost use Rattle.pfr_commit.specs.World.{opening};
 
 use pfr_capture::Record;
-use pfr_commit::{Book, Emitted, Unwatched};
+use pfr_commit::{Book, Emitted, Gate};
 use pfr_headers::View;
 use pfr_packet::Job;
 use std::alloc::{AllocError, Global};
@@ -35,8 +35,8 @@ impl Side {
     }
 
     /// Takes the next packets. What is emitted then is what a run with the side's ruleset writes of them behind what it has written
-    /// before.
-    pub fn take(&mut self, packets: &[(Record, View)]) -> Result<(), AllocError>
+    /// before. A gate is told what they come to.
+    pub fn take<G: Gate>(&mut self, packets: &[(Record, View)], gate: &G) -> Result<(), AllocError>
         requires views { All (λ packet. packet.1 ≡ view_of packet.0.link packet.0.bytes.items) packets.now }
         requires few { self.old.book.count + length packets.now ≤ 2 ^ 43 }
         ensures lines { OnOk result (LeadsOn self.old.book self.new.book self.new.emitted (after_packets self.old.book packets.now)) }
@@ -44,7 +44,7 @@ impl Side {
     {
         self.emitted.clear();
         self.book
-            .commit_batch_alone(packets, &Unwatched, &mut self.emitted)
+            .commit_batch_alone(packets, gate, &mut self.emitted)
     }
 
     /// How many packets it has taken.

@@ -4,13 +4,13 @@ use Rattle.pfr_diff.proofs.comparing.take_turn.Goals as goal
 
 -- the captures have at most 2^43 records
 pub take_records-requires-clause-few : goal.take_records-requires-clause-few
-take_records-requires-clause-few g c =
+take_records-requires-clause-few g c κs lives =
     let same = c.read_batch-end.ensures.captures.1 in
     let few = c.requires.captures.1 in
     passed_few c.read_batch-end.new.merge _ (c.read_batch-end.ensures.counted c.args.both.now.before.book.count c.requires.passed) (omega (arith, same, few))
 
 pub take_records-requires-in-Some-Ok-clause-few : goal.take_records-requires-in-Some-Ok-clause-few
-take_records-requires-in-Some-Ok-clause-few g c =
+take_records-requires-in-Some-Ok-clause-few g c κs lives =
     let same = c.read_batch-end.ensures.captures.1 in
     let few = c.requires.captures.1 in
     passed_few c.read_batch-end.new.merge _ (c.read_batch-end.ensures.counted c.args.both.now.before.book.count c.requires.passed) (omega (arith, same, few))
