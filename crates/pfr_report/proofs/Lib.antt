@@ -1,0 +1,2 @@
+mod EscapeLemmas
+mod LineLemmas
