@@ -7,12 +7,13 @@ use crate::peer::{Connection, connected};
 use crate::same_file::repeated_output;
 use pfr_capture::{Tail, WriterSink};
 use pfr_command::{CaptureWords, Messages, RunWords, names_of};
-use pfr_out::{Form, PacketSinks, Report, RunSettings, Sinks, Stop, replay_job};
+use pfr_out::{Form, Gate, PacketSinks, Report, RunSettings, Sinks, Stop, replay_job};
 use pfr_packet::Job;
 use pfr_prepare::prepared_text;
+use pfr_progress::{Meter, Two};
 use pfr_views::{
-    CUT, DONE, Failure, STANDARD, created, has_standard, is_standard, job_by, repeats_input,
-    sources,
+    CUT, DONE, Failure, STANDARD, begin_progress, created, has_standard, is_standard, job_by,
+    repeats_input, sources,
 };
 use pfr_warnings::{Warning, Watch, warn};
 use std::alloc::{AllocError, AllocGlobal};
@@ -35,8 +36,16 @@ pub fn replay<
     I: Read + Drop,
     O: Write + Copy,
     E: Write,
->(rt: &R, asked: &RunWords<'a>, input: I, out: &mut O, err: &mut E) -> Result<u8, Failure<'a>> {
-    match replay_words(rt, asked, input, out, err) {
+    M: Meter,
+>(
+    rt: &R,
+    asked: &RunWords<'a>,
+    input: I,
+    out: &mut O,
+    err: &mut E,
+    meter: &M,
+) -> Result<u8, Failure<'a>> {
+    match replay_words(rt, asked, input, out, err, meter) {
         Ok(status) => Ok(status),
         Err(failure) => {
             if asked.warns {
@@ -84,7 +93,15 @@ fn replay_words<
     I: Read + Drop,
     O: Write + Copy,
     E: Write,
->(rt: &R, asked: &RunWords<'a>, input: I, out: &mut O, err: &mut E) -> Result<u8, Failure<'a>> {
+    M: Meter,
+>(
+    rt: &R,
+    asked: &RunWords<'a>,
+    input: I,
+    out: &mut O,
+    err: &mut E,
+    meter: &M,
+) -> Result<u8, Failure<'a>> {
     let outputs = names_of(rt.alloc(), asked)?;
     if repeats_input(asked.captures.as_slice()) {
         return Err(Failure::SameFile(STANDARD));
@@ -94,7 +111,7 @@ fn replay_words<
     }
     // A fault of the ruleset is reported before any other file is touched.
     let job = job_of(rt, asked, err)?;
-    let report = watched(rt, asked, job, input, *out, err)?;
+    let report = watched(rt, asked, job, input, *out, err, meter)?;
     if has_standard(outputs.as_slice()) {
         return finish(&report, err);
     }
@@ -108,6 +125,7 @@ fn watched<
     I: Read + Drop,
     O: Write + Copy,
     E: Write,
+    M: Meter,
 >(
     rt: &R,
     asked: &RunWords<'a>,
@@ -115,26 +133,35 @@ fn watched<
     input: I,
     out: O,
     err: &mut E,
+    meter: &M,
 ) -> Result<Report, Failure<'a>> {
     let watch = Watch::new(rt.alloc(), job.rules(), asked.warns)?;
-    let report = replayed(rt, asked, job, input, out, &watch)?;
+    begin_progress(rt, asked.progresses, asked.captures.as_slice(), meter);
+    let both = Two {
+        first: &watch,
+        second: meter,
+    };
+    let ended = replayed(rt, asked, job, input, out, &both);
+    meter.end();
+    let report = ended?;
     watch.warn(report.committed, err);
     Ok(report)
 }
 
-/// Replays captures by a job, and writes the outputs. Somebody watches the packets.
+/// Replays captures by a job, and writes the outputs. A gate is told of the packets.
 fn replayed<
     'a,
     R: Files + Net + AllocGlobal + Threads + Wait + Sync,
     I: Read + Drop,
     O: Write + Copy,
+    G: Gate,
 >(
     rt: &R,
     asked: &RunWords<'a>,
     job: Job,
     input: I,
     out: O,
-    watch: &Watch,
+    gate: &G,
 ) -> Result<Report, Failure<'a>> {
     let captures = asked.captures.as_slice();
     let addresses = asked.ways.link_addresses.as_slice();
@@ -145,7 +172,7 @@ fn replayed<
         workers: asked.workers,
         form: form_of(&asked.outputs.messages),
     };
-    match replay_job(rt, &mut sources, job, settings, &mut sinks, watch) {
+    match replay_job(rt, &mut sources, job, settings, &mut sinks, gate) {
         Ok(report) => Ok(report),
         Err(stop) => Err(Failure::of_run(stop, asked.captures.as_slice())),
     }

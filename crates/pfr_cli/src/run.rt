@@ -5,9 +5,10 @@ use crate::summary::Summary;
 use pfr_command::{Asked, parse};
 use pfr_out::{StandbyStop, Stop};
 use pfr_prepare::{Prepared, Refusal, Request, prepared_text, say_faults};
+use pfr_progress::Meter;
 use pfr_views::{
-    DONE, Failure, REFUSED, TROUBLE, list_states, print, report, show_packets, tell_changes,
-    tell_rules,
+    DONE, Failure, REFUSED, TROUBLE, list_states, print, report, report_on, show_packets,
+    tell_changes, tell_rules,
 };
 use std::alloc::Global;
 use std::io::{Read, Write};
@@ -17,17 +18,18 @@ use std::sync::Wait;
 use std::thread::Threads;
 
 /// The commands that show something.
-const SHOWING: [&str; 4] = ["states", "rules", "diff", "show"];
+const SHOWING: [&str; 5] = ["states", "rules", "diff", "show", "report"];
 
 /// Does what the words ask, the program's name first among them, and answers the status to end with. What
-/// is wrong goes to `err`, in one line.
+/// is wrong goes to `err`, in one line. The meter says how far a command has come, if the words ask for that.
 pub fn run<
     R: Files + Net + AllocGlobal + Threads + Wait + Sync,
     I: Read + Drop,
     O: Write + Copy,
     E: Write,
->(rt: &R, words: &[String], input: I, out: &mut O, err: &mut E) -> u8 {
-    match work(rt, words, input, out, err) {
+    M: Meter,
+>(rt: &R, words: &[String], input: I, out: &mut O, err: &mut E, meter: &M) -> u8 {
+    match work(rt, words, input, out, err, meter) {
         Ok(status) => status,
         Err(failure) => {
             let status = report(&by_command(failure, words), err);
@@ -69,17 +71,26 @@ fn work<
     I: Read + Drop,
     O: Write + Copy,
     E: Write,
->(rt: &R, words: &'a [String], input: I, out: &mut O, err: &mut E) -> Result<u8, Failure<'a>> {
+    M: Meter,
+>(
+    rt: &R,
+    words: &'a [String],
+    input: I,
+    out: &mut O,
+    err: &mut E,
+    meter: &M,
+) -> Result<u8, Failure<'a>> {
     match parse(rt.alloc(), words)? {
         Asked::Text(text) => print(out, text.as_bytes()),
         Asked::Check(rules) => check(rt, &rules, out, err),
         Asked::Adapt(rules) => adapt(rt, &rules, out, err),
-        Asked::Run(asked) => replay(rt, &asked, input, out, err),
+        Asked::Run(asked) => replay(rt, &asked, input, out, err, meter),
         Asked::Standby(stream) => stand_by(rt, &stream, input, out),
         Asked::States(asked) => list_states(rt, &asked, input, out),
         Asked::Rules(asked) => tell_rules(rt, &asked, out, err),
-        Asked::Diff(asked) => tell_changes(rt, &asked, input, out, err),
+        Asked::Diff(asked) => tell_changes(rt, &asked, input, out, err, meter),
         Asked::Show(asked) => show_packets(rt, &asked, input, out, err),
+        Asked::Report(asked) => report_on(rt, &asked, input, out, err, meter),
     }
 }
 

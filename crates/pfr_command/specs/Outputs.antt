@@ -2,9 +2,9 @@
 use Rattle.std.specs.Prelude.{ℕ, List, [], ◌∷◌, ◌++◌, map}
 use Rattle.std.specs.Borrow.{Bor}
 use Rattle.pfr_command.specs.declared.also.CaptureWords.{CaptureWords}
-use Rattle.pfr_command.specs.declared.words.OutputNames.{OutputNames}
-use Rattle.pfr_command.specs.declared.words.Messages.{Messages}
-use Rattle.pfr_command.specs.declared.words.Messages.TheVariants.{File, Peer, Nowhere}
+use Rattle.pfr_command.specs.declared.run.OutputNames.{OutputNames}
+use Rattle.pfr_command.specs.declared.run.Messages.{Messages}
+use Rattle.pfr_command.specs.declared.run.Messages.TheVariants.{File, Peer, Nowhere}
 
 -- the name of the file of messages, if they go into one
 abbrev pub messages_names : Messages → List (Bor (List ℕ))

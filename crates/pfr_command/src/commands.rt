@@ -1,6 +1,12 @@
 //! The commands of the program, with their words, flags and help.
 use crate::also::{AlsoForm, also_arg};
 use crate::around::surrounding_args;
+use crate::help::{
+    ADAPT_EXAMPLE, CHECK_EXAMPLE, DIFF_EXAMPLE, MORE_OF_ADAPT, MORE_OF_DIFF, MORE_OF_PROGRAM,
+    MORE_OF_REPORT, MORE_OF_RULES, MORE_OF_RUN, MORE_OF_SHOW, MORE_OF_STANDBY, MORE_OF_STATES,
+    REPORT_EXAMPLE, RULES_EXAMPLE, RUN_EXAMPLE, SHOW_EXAMPLE, STANDBY_EXAMPLE, STATES_EXAMPLE,
+    VERSIONS,
+};
 use crate::mac::mac_arg;
 use crate::values::{
     ADDRESS, BATCH, FILE, FORMAT, HOST, INSIDE, INTERFACE, NUMBER, PEER, SEED, TAP, VERDICTS,
@@ -8,119 +14,6 @@ use crate::values::{
 };
 use clap::{Arg, ArgAction, Command};
 use std::alloc::{AllocError, Global};
-
-/// What the program prints of itself for `--version`: its own, and the line of the toolchain that proved it.
-const VERSIONS: &str = "0.1.0
-rattle-kit-13f logic dac8208d650f15bf";
-
-const RUN_EXAMPLE: &str = "Example:
-  pfreplay run office.pcap /etc/pf.conf --interface em0 --address 192.0.2.1/24 \\
-      --inside 10.0.0.0/8,192.0.2.1 --verdicts verdicts.txt --packets passed.pcap \\
-      --counters counters.txt --states states.txt";
-
-const MORE_OF_RUN: &str =
-    "Several interfaces, a capture from a pipe, and packets as they are on the wire:
-  pfreplay run em0.pcap /etc/pf.conf --interface em0 --address 192.0.2.1/24 \\
-      --also em1,203.0.113.2/24,em1.pcap,passed1.pcap --inside 10.0.0.0/8 \\
-      --verdicts verdicts.txt --packets passed0.pcap \\
-      --counters counters.txt --states states.txt
-  zcat office.pcap.gz | pfreplay run - /etc/pf.conf --interface em0 --address 192.0.2.1/24 \\
-      --inside 10.0.0.0/8 --verdicts - --packets passed.pcap \\
-      --counters counters.txt --states states.txt
-  tcpdump -i em0 -c 1000 -w - | pfreplay run - /etc/pf.conf --interface em0 \\
-      --address 192.0.2.1/24 --tap wire --mac em0=00:00:5e:00:53:01 \\
-      --verdicts verdicts.txt --packets passed.pcap \\
-      --counters counters.txt --states states.txt
-
-In the place of a capture - is standard input, and in the place of an output standard output.";
-
-const CHECK_EXAMPLE: &str = "Example:
-  pfreplay check /etc/pf.conf --interface em0 --address 192.0.2.1/24";
-
-const MORE_OF_PROGRAM: &str = "pfreplay help COMMAND prints the words and flags of a command.";
-
-const ADAPT_EXAMPLE: &str = "Example:
-  pfreplay adapt /etc/pf.conf --interface em0 --address 192.0.2.1/24 > adapted.conf";
-
-const MORE_OF_ADAPT: &str =
-    "It prints the text on standard output, and on standard error a line for each part that it rewrote:
-RULES:LINE:COLUMN: KIND: WORD: WHY. KIND is note if no verdict depends on it, and warning if
-verdicts may differ from pf's. error says what is still refused.
-
-What the file of a table holds can be given:
-  pfreplay adapt pf.conf --interface em0 --address 192.0.2.1/24 --table spammers=spammers.txt";
-
-const STANDBY_EXAMPLE: &str = "Example:
-  pfreplay standby --messages messages.bin";
-
-const MORE_OF_STANDBY: &str =
-    "It prints a line for each state, by number: N PROTO DIR WIRE STACK r=R PEER PEER TIMEOUT.
-N is the number of the packet that made the state, PROTO its protocol's number.
-DIR is in or out, WIRE and STACK are the ends outside and inside on the two sides.
-R is the number of the rule, - if there is none.
-PEER is CODE/LOW/HIGH/WINDOW/SCALE of the end that made the state, and of the other one.
-TIMEOUT: 0 to 5 tcp.first, tcp.opening, tcp.established, tcp.closing, tcp.finwait,
-  tcp.closed; 6 to 8 udp.first, udp.single, udp.multiple; 9 and 10 icmp.first,
-  icmp.error; 11 to 13 other.first, other.single, other.multiple.
-
-In the place of the file - is standard input.";
-
-const STATES_EXAMPLE: &str = "Example:
-  pfreplay states states.txt";
-
-const MORE_OF_STATES: &str =
-    "It prints a line for each state, as pfctl -s states does: the interface to which it is bound or all,
-the protocol, both ends and how far they have come. The end inside stands first, what is
-translated in brackets. -> is a state that a packet made on its way out, <- one on its way in.
-
-Those of one protocol and address, and one state to a line of JSON:
-  pfreplay states states.txt | grep 'tcp 192.0.2.1:443'
-  pfreplay states states.txt --json
-
-In the place of the file - is standard input.";
-
-const RULES_EXAMPLE: &str = "Example:
-  pfreplay rules /etc/pf.conf --interface em0 --address 192.0.2.1/24";
-
-const MORE_OF_RULES: &str =
-    "It prints a line for each rule, @N LLINE and the rule: N is the number by which verdict lines and
-counters name it, LINE the line on which it stands. Translation rules come first. An anchor has a
-line where it begins, and one where it ends.
-
-With what a run counted, and the rules for which no packet counts:
-  pfreplay rules /etc/pf.conf --interface em0 --address 192.0.2.1/24 --counters counters.txt
-  pfreplay rules /etc/pf.conf --interface em0 --address 192.0.2.1/24 --counters counters.txt \\
-      | grep 'counts no packet'";
-
-const DIFF_EXAMPLE: &str = "Example:
-  pfreplay diff office.pcap /etc/pf.conf pf.new --interface em0 --address 192.0.2.1/24 \\
-      --inside 10.0.0.0/8,192.0.2.1";
-
-const MORE_OF_DIFF: &str =
-    "It prints a line for each flow of which packets come to something else, what they come to by both
-rulesets, how many there are, and the number of the first. LLINE is the line of the rule that
-decides. Then come sums. The status is 0 if no packet changes, 1 if one does, and more if the
-files can't be compared.
-
-In the place of the capture - is standard input.";
-
-const SHOW_EXAMPLE: &str = "Example:
-  pfreplay show office.pcap verdicts.txt /etc/pf.conf --interface em0 --address 192.0.2.1/24";
-
-const MORE_OF_SHOW: &str =
-    "It joins each packet with the line of verdicts that a run with this ruleset wrote of it, and prints a
-line: time, rule with its line, reason, verdict, direction, interface, and the packet as it was
-captured.
-
-Which rule blocks what comes from a host, how many packets there are, and a capture for tcpdump:
-  pfreplay show office.pcap verdicts.txt /etc/pf.conf --interface em0 --address 192.0.2.1/24 \\
-      --only block,return --host 198.51.100.8
-  pfreplay show office.pcap verdicts.txt /etc/pf.conf --interface em0 --address 192.0.2.1/24 \\
-      --line 43 --count
-  pfreplay show office.pcap verdicts.txt /etc/pf.conf --interface em0 --address 192.0.2.1/24 \\
-      --logged --format pflog | tcpdump -nn -e -r -
-
-In the place of the capture or of the verdicts - is standard input, for one of them.";
 
 /// The flags that say which packets are shown: their names, what the help calls their values, and their help.
 const SELECTION_FLAGS: [(&str, &str, &str); 4] = [
@@ -174,7 +67,8 @@ pub(crate) fn command_line<'a>(alloc: Global) -> Result<Command<'a>, AllocError>
 fn with_views<'a>(alloc: Global, program: Command<'a>) -> Result<Command<'a>, AllocError> {
     let program = program.subcommand(rules_command(alloc)?)?;
     let program = program.subcommand(diff_command(alloc)?)?;
-    program.subcommand(show_command(alloc)?)
+    let program = program.subcommand(show_command(alloc)?)?;
+    program.subcommand(report_command(alloc)?)
 }
 
 /// The program without its commands.
@@ -216,7 +110,13 @@ fn with_choices<'a>(alloc: Global, command: Command<'a>) -> Result<Command<'a>, 
     let command = with_seed(alloc, command)?;
     let command = with_sizes(alloc, command)?;
     let command = with_messages(alloc, command)?;
-    command.arg(warn_arg(alloc))
+    command.arg(warn_arg(alloc))?.arg(progress_arg(alloc))
+}
+
+/// The flag that asks how far a command has come.
+fn progress_arg<'a>(alloc: Global) -> Arg<'a> {
+    let help = "Say on standard error how far the command has come";
+    switch(alloc, "progress", help)
 }
 
 /// The flag that asks for warnings.
@@ -290,7 +190,7 @@ fn with_comparison<'a>(alloc: Global, command: Command<'a>) -> Result<Command<'a
     let command = with_ways(alloc, command)?;
     let command = command.arg(also_arg(alloc, AlsoForm::Compared))?;
     let command = with_seed(alloc, command)?;
-    with_adapt(alloc, command.arg(verdicts)?)
+    with_adapt(alloc, command.arg(verdicts)?.arg(progress_arg(alloc))?)
 }
 
 /// The command that shows packets.
@@ -301,23 +201,46 @@ fn show_command<'a>(alloc: Global) -> Result<Command<'a>, AllocError> {
         .before_help(SHOW_EXAMPLE)
         .after_help(MORE_OF_SHOW)
         .arg(word(alloc, "CAPTURE", capture))?;
+    with_selection(alloc, with_joined(alloc, command)?)
+}
+
+/// A command with the words behind its capture that say which run is joined with it.
+fn with_joined<'a>(alloc: Global, command: Command<'a>) -> Result<Command<'a>, AllocError> {
     let command = command.arg(word(alloc, "VERDICTS", "The file of the verdicts that run wrote"))?;
     let command = with_ruleset(alloc, command)?;
-    let command = command.arg(also_arg(alloc, AlsoForm::Compared))?;
-    with_adapt(alloc, with_selection(alloc, command)?)
+    with_adapt(alloc, command.arg(also_arg(alloc, AlsoForm::Compared))?)
+}
+
+/// The command that prints a page about packets.
+fn report_command<'a>(alloc: Global) -> Result<Command<'a>, AllocError> {
+    let capture = "The file with the packet capture, in the classic pcap format";
+    let states = "The file of the states that run wrote, to be told by their ages";
+    let command = Command::new(alloc, "report")
+        .about("Prints a page of HTML about what a run made of a capture")
+        .before_help(REPORT_EXAMPLE)
+        .after_help(MORE_OF_REPORT)
+        .arg(word(alloc, "CAPTURE", capture))?;
+    let command = with_joined(alloc, command)?;
+    let command = command.arg(flag(alloc, "states", FILE, states).required(false))?;
+    command.arg(progress_arg(alloc))
 }
 
 /// A command with the flags that say which packets are shown, and how.
 fn with_selection<'a>(alloc: Global, command: Command<'a>) -> Result<Command<'a>, AllocError> {
-    let mut command = command;
-    for (name, form, help) in &SELECTION_FLAGS {
-        command = command.arg(flag(alloc, name, form, help).required(false))?;
-    }
+    let command = command.args(selection_args(alloc)?)?;
     let command = command.arg(switch(alloc, "logged", "Only packets that pf would log"))?;
     let count = switch(alloc, "count", "Say how many packets there are alone");
     let command = command.arg(count.conflicts_with("format")?)?;
     let form = "How packets are shown [default: text]";
     command.arg(flag(alloc, "format", FORMAT, form).required(false))
+}
+
+fn selection_args<'a>(alloc: Global) -> Result<Vec<Arg<'a>>, AllocError> {
+    let mut args = Vec::new(alloc);
+    for (name, form, help) in &SELECTION_FLAGS {
+        args.push(flag(alloc, name, form, help).required(false))?;
+    }
+    Ok(args)
 }
 
 /// A flag without a value.

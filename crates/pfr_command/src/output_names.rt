@@ -3,7 +3,7 @@ ghost use Rattle.std.specs.Prelude.{◌≡◌, ◌++◌, IfOk, OnOk};
 ghost use Rattle.pfr_command.specs.Outputs.{file_names, messages_names, packets_names};
 
 use crate::also::CaptureWords;
-use crate::words::{Messages, RunWords};
+use crate::run::{Messages, RunWords};
 use pfr_items::Items;
 use std::alloc::{AllocError, Global};
 

@@ -1,34 +1,26 @@
 //! What the words behind `show` say.
 ghost use Rattle.std.specs.Prelude.{◌≡◌, ◌==◌, IfOk, map};
-ghost use Rattle.std.proofs.Props.{props};
 ghost use Rattle.std.specs.List.{list_all, slice_split};
 ghost use Rattle.std.specs.Result.{result_ok};
 ghost use Rattle.pfr_net.specs.Networks.{net_of};
 ghost use Rattle.pfr_net.specs.Notation.{number};
-ghost use Rattle.pfr_command.specs.Places.{ArePlaces};
 ghost use Rattle.pfr_command.specs.Shows as spec;
 
-use crate::also::CaptureWords;
 use crate::inside::parts_of;
+use crate::joined::{JoinedWords, joined_words};
 use crate::refused::Refused;
 use crate::values::{FORMAT, HOST, NUMBER, VERDICTS};
-use pfr_items::Items;
+use crate::words::Asked;
+use clap::ArgMatches;
 use pfr_net::{Net, notation};
-use pfr_prepare::Request;
 use std::alloc::Global;
 
-/// What the words behind `show` say: of which captures and verdicts packets are shown, which of them, and how.
+/// What the words behind `show` say: which packets are shown, and how.
 #[derive(Drop)]
 pub struct ShowWords<'a> {
-    /// The interfaces and the captures of each, by their places. There are no files for packets.
-    pub captures: Items<CaptureWords<'a>>,
-    /// The file with the lines of verdicts that a run wrote.
-    pub verdicts: &'a str,
-    /// The ruleset of that run, and the interfaces that it is for.
-    pub rules: Request<'a>,
+    pub joined: JoinedWords<'a>,
     pub selection: SelectionWords,
     pub form: ShowForm,
-    pub ghost are_places: { ArePlaces rules.interfaces captures } by { Prim.hlevel props },
 }
 
 /// Which packets are shown: those for which all holds that is asked.
@@ -100,7 +92,7 @@ fn are_verdicts(words: &[&str]) -> bool
 }
 
 /// The verdicts that a word lists, separated by commas.
-pub(crate) fn verdicts_in<'a>(alloc: Global, word: &'a str) -> Result<Only, Refused<'a>>
+fn verdicts_in<'a>(alloc: Global, word: &'a str) -> Result<Only, Refused<'a>>
     ensures { IfOk result (spec.Lists (slice_split (λ b. b == 44) word.entry.now)) }
 {
     let parts = parts_of(alloc, word)?;
@@ -121,7 +113,7 @@ pub(crate) fn verdicts_in<'a>(alloc: Global, word: &'a str) -> Result<Only, Refu
 }
 
 /// The number behind a flag, in decimal digits.
-pub(crate) fn count<'a>(flag: &'a str, word: &'a str) -> Result<u64, Refused<'a>>
+fn count<'a>(flag: &'a str, word: &'a str) -> Result<u64, Refused<'a>>
     ensures { result_ok result ≡ number word.entry.now }
 {
     notation::number(word.as_bytes()).ok_or(Refused::BadValue {
@@ -132,7 +124,7 @@ pub(crate) fn count<'a>(flag: &'a str, word: &'a str) -> Result<u64, Refused<'a>
 }
 
 /// The network of the addresses that a word says, or a single address.
-pub(crate) fn host<'a>(word: &'a str) -> Result<Net, Refused<'a>>
+fn host<'a>(word: &'a str) -> Result<Net, Refused<'a>>
     ensures { result_ok result ≡ net_of word.entry.now }
 {
     Net::parse(word.as_bytes()).ok_or(Refused::BadValue {
@@ -143,7 +135,7 @@ pub(crate) fn host<'a>(word: &'a str) -> Result<Net, Refused<'a>>
 }
 
 /// The form for a word.
-pub(crate) fn form<'a>(word: &'a str) -> Result<ShowForm, Refused<'a>>
+fn form<'a>(word: &'a str) -> Result<ShowForm, Refused<'a>>
     ensures { result_ok result ≡ spec.form_of word.entry.now }
 {
     match word {
@@ -155,5 +147,64 @@ pub(crate) fn form<'a>(word: &'a str) -> Result<ShowForm, Refused<'a>>
             form: FORMAT,
             word,
         }),
+    }
+}
+
+/// What the words behind `show` ask for.
+pub(crate) fn show_words<'a>(
+    alloc: Global,
+    matches: &ArgMatches<'a>,
+) -> Result<Asked<'a>, Refused<'a>> {
+    let selection = given_selection(alloc, matches)?;
+    let form = given_form(matches)?;
+    Ok(Asked::Show(ShowWords {
+        joined: joined_words(alloc, matches)?,
+        selection,
+        form,
+    }))
+}
+
+/// Which packets the words ask for.
+fn given_selection<'a>(
+    alloc: Global,
+    matches: &ArgMatches<'a>,
+) -> Result<SelectionWords, Refused<'a>> {
+    let only = match matches.get_str("only") {
+        Some(word) => Some(verdicts_in(alloc, word)?),
+        None => None,
+    };
+    let host = match matches.get_str("host") {
+        Some(word) => Some(host(word)?),
+        None => None,
+    };
+    Ok(SelectionWords {
+        only,
+        rule: given_count(matches, "rule", "--rule")?,
+        line: given_count(matches, "line", "--line")?,
+        host,
+        logged: matches.get_flag("logged"),
+    })
+}
+
+/// The number behind a flag, if it is given.
+fn given_count<'a>(
+    matches: &ArgMatches<'a>,
+    name: &'a str,
+    flag: &'a str,
+) -> Result<Option<u64>, Refused<'a>> {
+    match matches.get_str(name) {
+        Some(word) => Ok(Some(count(flag, word)?)),
+        None => Ok(None),
+    }
+}
+
+/// How the words ask for packets to be shown. At most one of the two flags is there.
+fn given_form<'a>(matches: &ArgMatches<'a>) -> Result<ShowForm, Refused<'a>> {
+    if matches.get_flag("count") {
+        return Ok(ShowForm::Count);
+    }
+    match matches.get_str("format") {
+        Some(word) => form(word),
+        None => Ok(ShowForm::Text),
     }
 }

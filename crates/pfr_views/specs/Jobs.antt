@@ -1,7 +1,7 @@
 -- The job of a run, as the words of the command line ask for it.
 use Rattle.std.specs.Prelude.{◌≡◌, ℕ, List}
 use Rattle.pfr_packet.specs.Job.{RunJob}
-use Rattle.pfr_command.specs.declared.words.Ways.{Ways}
+use Rattle.pfr_command.specs.declared.ways.Ways.{Ways}
 use Rattle.pfr_prepare.specs.declared.preparing.Request.{Request}
 
 -- a job with what the words say of the ways that packets go, and of where they were captured

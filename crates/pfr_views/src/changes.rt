@@ -5,12 +5,14 @@ use crate::captures::{names_of, sources};
 use crate::failure::{CHANGED, DONE, Failure};
 use crate::jobs::job_by;
 use crate::printing::{print, print_piece};
+use crate::progress::begin_progress;
 use crate::rules::rules_of;
 use crate::standard::{STANDARD, repeats_input};
 use pfr_command::DiffWords;
 use pfr_diff::{BothTold, Compared, Side, Stopped, compare};
 use pfr_packet::Job;
 use pfr_prepare::{Prepared, Request, prepared_text};
+use pfr_progress::Meter;
 use pfr_wording::{Rules, RulesTold};
 use std::alloc::{AllocGlobal, Global};
 use std::io::{Read, Write};
@@ -24,22 +26,36 @@ struct Ruled {
     ghost none: { side.book.count ≡ 0 },
 }
 
+/// Runs with two rulesets, neither of which has taken a packet.
+#[derive(Drop)]
+struct Sides {
+    before: Side,
+    after: Side,
+    ghost none_before: { before.book.count ≡ 0 },
+    ghost none_after: { after.book.count ≡ 0 },
+}
+
 /// Says for which packets of captures another ruleset comes to something else, and answers the status.
-pub fn tell_changes<'a, R: Files + AllocGlobal, I: Read + Drop, O: Write, E: Write>(
+pub fn tell_changes<'a, R: Files + AllocGlobal, I: Read + Drop, O: Write, E: Write, M: Meter>(
     rt: &R,
     asked: &DiffWords<'a>,
     input: I,
     out: &mut O,
     err: &mut E,
+    meter: &M,
 ) -> Result<u8, Failure<'a>> {
     if repeats_input(asked.captures.as_slice()) {
         return Err(Failure::SameFile(STANDARD));
     }
     let old = with_ruleset(rt, asked, &asked.old, err)?;
     match with_ruleset(rt, asked, &asked.new, err) {
-        Ok(new) => compared(
-            rt, asked, old.side, new.side, old.rules, new.rules, input, out,
-        ),
+        Ok(new) => {
+            let sides = Sides {
+                before: old.side,
+                after: new.side,
+            };
+            compared(rt, asked, sides, old.rules, new.rules, input, out, meter)
+        }
         Err(failure) => Err(failure),
     }
 }
@@ -75,67 +91,67 @@ fn beginning<'a>(alloc: Global, job: Job, rules: Rules) -> Result<Ruled, Failure
 }
 
 /// Compares what two rulesets come to, and prints it.
-fn compared<'a, R: Files + AllocGlobal, I: Read + Drop, O: Write>(
+fn compared<'a, R: Files + AllocGlobal, I: Read + Drop, O: Write, M: Meter>(
     rt: &R,
     asked: &DiffWords<'a>,
-    before: Side,
-    after: Side,
+    sides: Sides,
     old: Rules,
     new: Rules,
     input: I,
     out: &mut O,
-) -> Result<u8, Failure<'a>>
-    requires before { before.book.count ≡ 0 }
-    requires after { after.book.count ≡ 0 }
-{
+    meter: &M,
+) -> Result<u8, Failure<'a>> {
     match old.told(rt.alloc()) {
-        Ok(told) => compare_with(rt, asked, before, after, &told, new, input, out),
+        Ok(told) => compare_with(rt, asked, sides, &told, new, input, out, meter),
         Err(_) => Err(Failure::NoMemory),
     }
 }
 
 /// The same, with the old rules as they are told.
-fn compare_with<'a, R: Files + AllocGlobal, I: Read + Drop, O: Write>(
+fn compare_with<'a, R: Files + AllocGlobal, I: Read + Drop, O: Write, M: Meter>(
     rt: &R,
     asked: &DiffWords<'a>,
-    before: Side,
-    after: Side,
+    sides: Sides,
     old: &RulesTold<'_>,
     new: Rules,
     input: I,
     out: &mut O,
-) -> Result<u8, Failure<'a>>
-    requires before { before.book.count ≡ 0 }
-    requires after { after.book.count ≡ 0 }
-{
+    meter: &M,
+) -> Result<u8, Failure<'a>> {
     match new.told(rt.alloc()) {
         Ok(told) => {
             let told = BothTold { old, new: &told };
-            compare_captures(rt, asked, before, after, told, input, out)
+            compare_captures(rt, asked, sides, told, input, out, meter)
         }
         Err(_) => Err(Failure::NoMemory),
     }
 }
 
 /// Opens the captures, has two runs take their packets, and prints what changes.
-fn compare_captures<'a, R: Files + AllocGlobal, I: Read + Drop, O: Write>(
+fn compare_captures<'a, R: Files + AllocGlobal, I: Read + Drop, O: Write, M: Meter>(
     rt: &R,
     asked: &DiffWords<'a>,
-    before: Side,
-    after: Side,
+    sides: Sides,
     told: BothTold<'_>,
     input: I,
     out: &mut O,
-) -> Result<u8, Failure<'a>>
-    requires before { before.book.count ≡ 0 }
-    requires after { after.book.count ≡ 0 }
-{
+    meter: &M,
+) -> Result<u8, Failure<'a>> {
     let captures = asked.captures.as_slice();
     let addresses = asked.ways.link_addresses.as_slice();
+    begin_progress(rt, asked.progresses, captures, meter);
     match sources(rt, captures, addresses, input) {
         Ok(mut sources) => {
-            let alone = asked.verdicts_alone;
-            let found = compare(rt.alloc(), &mut sources, before, after, told, alone);
+            let found = compare(
+                rt.alloc(),
+                &mut sources,
+                sides.before,
+                sides.after,
+                told,
+                asked.verdicts_alone,
+                meter,
+            );
+            meter.end();
             say_changes(rt.alloc(), asked, found, out)
         }
         Err(failure) => Err(failure),

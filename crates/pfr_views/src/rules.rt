@@ -32,13 +32,17 @@ pub fn tell_rules<'a, R: Files + AllocGlobal, O: Write, E: Write>(
 
 /// The rules of a ruleset, and those that are shadowed.
 #[derive(Drop)]
-struct Told {
-    rules: Rules,
-    shadows: Vec<Shadow>,
+pub(crate) struct Told {
+    pub(crate) rules: Rules,
+    pub(crate) shadows: Vec<Shadow>,
 }
 
 /// The rules of a ruleset's text, and those that are shadowed.
-fn told_in<'a>(alloc: Global, request: &Request<'a>, text: &Prepared) -> Result<Told, Failure<'a>> {
+pub(crate) fn told_in<'a>(
+    alloc: Global,
+    request: &Request<'a>,
+    text: &Prepared,
+) -> Result<Told, Failure<'a>> {
     let found = ruleset_of(alloc, text.text.as_slice(), request.interfaces.as_slice());
     match found {
         Ok(ruleset) => told_of(alloc, text, &ruleset),
