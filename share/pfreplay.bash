@@ -8,14 +8,15 @@ _pfreplay_flags() {
     local outputs='--verdicts --packets --counters --states --messages --peer'
     local choices='--only --rule --line --host --logged'
     case $1 in
-        run) echo "--help $ruleset --adapt $surroundings $ways $outputs --seed --batch --workers --warn" ;;
+        run) echo "--help $ruleset --adapt $surroundings $ways $outputs --seed --batch --workers --warn --progress" ;;
         check) echo "--help $ruleset --adapt $surroundings" ;;
         adapt) echo "--help $ruleset $surroundings" ;;
         standby) echo '--help --messages --listen' ;;
         states) echo '--help --json' ;;
         rules) echo "--help $ruleset --adapt $surroundings --counters" ;;
-        diff) echo "--help $ruleset --adapt $surroundings $ways --seed --verdicts" ;;
+        diff) echo "--help $ruleset --adapt $surroundings $ways --seed --verdicts --progress" ;;
         show) echo "--help $ruleset --adapt $surroundings $choices --count --format" ;;
+        report) echo "--help $ruleset --adapt $surroundings --states --progress" ;;
         '') echo '--help --version' ;;
     esac
 }
@@ -42,16 +43,16 @@ _pfreplay_files() {
     done
 }
 
-# Answers the files that stand behind the name and the address of an interface, two for `run`, and one for `diff` and
-# `show`: the command, the value so far, and the part of it that bash takes for a word.
+# Answers the files that stand behind the name and the address of an interface, two for `run`, and one for `diff`,
+# `show` and `report`: the command, the value so far, and the part of it that bash takes for a word.
 _pfreplay_also() {
     case $1:${2//[^,]/} in
-        run:,, | run:,,, | diff:,, | show:,,) _pfreplay_files "${3##*,}" "${3%,*}," ;;
+        run:,, | run:,,, | diff:,, | show:,, | report:,,) _pfreplay_files "${3##*,}" "${3%,*}," ;;
     esac
 }
 
-# Answers what may stand behind a flag: the command, the flag, the value so far, and the part of it that bash takes for a
-# word.
+# Answers what may stand behind a flag: the command, the flag, the value so far, and the part of it that bash takes for
+# a word.
 _pfreplay_value() {
     case $2 in
         # `diff` has this flag without a value
@@ -69,7 +70,7 @@ _pfreplay_value() {
 }
 
 _pfreplay() {
-    local commands='run check adapt standby states rules diff show help'
+    local commands='run check adapt standby states rules diff show report help'
     local word=${COMP_WORDS[COMP_CWORD]} command=${COMP_WORDS[1]} place=$((COMP_CWORD - 1))
     local value=$word
     COMPREPLY=()
@@ -87,7 +88,7 @@ _pfreplay() {
     _pfreplay_value "$command" "${COMP_WORDS[place]}" "${value#=}" "$word" && return
     case $command in
         help) ((COMP_CWORD > 2)) || _pfreplay_words "${commands% help}" "$word" ;;
-        run | check | adapt | standby | states | rules | diff | show)
+        run | check | adapt | standby | states | rules | diff | show | report)
             if [[ $word == -* ]]; then
                 _pfreplay_words "$(_pfreplay_flags "$command")" "$word"
             elif [[ $command != standby ]]; then

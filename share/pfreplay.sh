@@ -4,6 +4,6 @@
 # and bash and zsh have files of their own beside this one.
 case ${KSH_VERSION-} in
     *'PD KSH'*)
-        set -A complete_pfreplay_1 -- run check adapt standby states rules diff show help --help --version
+        set -A complete_pfreplay_1 -- run check adapt standby states rules diff show report help --help --version
         ;;
 esac
