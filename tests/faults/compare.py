@@ -11,7 +11,7 @@ from pathlib import Path
 
 import building
 from captures.packets import capture_header, record
-from faults import judged, replay, rows, trial
+from faults import cases, judged, replay, trial
 from faults.command import ends_lawfully
 from messages.rows import NOT_IPV4, flow, reply
 from runs.case import EXAMPLE_INSIDES, EXAMPLES, INSIDE
@@ -136,4 +136,4 @@ def model_alone():
 
 def main():
     program = building.pfreplay()
-    sys.exit(bool(judged.compare() + rows.compare(program) + compare(program)))
+    sys.exit(bool(judged.compare() + cases.compare(program) + compare(program)))

@@ -22,7 +22,7 @@ sys.dont_write_bytecode = True
 sys.path[0] = str(Path(__file__).resolve().parent.parent)
 
 import building
-from hostile.inputs import drawn
+from hostile.cases import drawn
 from hostile.trial import REFUSED, SECONDS, Trial, limit_files
 
 # inputs of one process at a time

@@ -14,6 +14,8 @@ import time
 from pathlib import Path
 from typing import NamedTuple
 
+from reporting.reading import read
+
 SECONDS, MEGABYTES = 2, 512
 # a run that takes so many times longer than it may is killed
 PATIENCE = 10
@@ -22,7 +24,7 @@ DONE, REFUSED, CUT, FAILED = range(4)
 CHANGED, TROUBLE = REFUSED, CUT
 STATUSES = {"check": (DONE, REFUSED), "adapt": (DONE, REFUSED), "run": (DONE, REFUSED, CUT), "standby": (DONE, REFUSED),
             "states": (DONE, REFUSED), "rules": (DONE, REFUSED), "diff": (DONE, CHANGED, TROUBLE),
-            "show": (DONE, REFUSED)}
+            "show": (DONE, REFUSED), "report": (DONE, REFUSED)}
 ONE_LINE = re.compile(rb"pfreplay: [^\n]*\n")
 # the one device that fails: a file that isn't there
 CANNOT_OPEN = re.compile(rb"pfreplay: cannot open: [^\n]*\n")
@@ -109,6 +111,9 @@ class Trial:
             yield f"status {ended.status} and {ended.err[:300]!r}"
         if command == "run" and ended.status in (DONE, CUT) and not self.agree(ended):
             yield f"{ended.out!r}, and other lines"
+        if command == "report" and ended.status == DONE:
+            _, wrong = read(ended.out)
+            yield from (f"a page with {fault}" for fault in wrong[:1])
 
     def agree(self, ended):
         """Whether a run that came to its end has a line for each packet."""

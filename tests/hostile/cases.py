@@ -15,8 +15,8 @@ from adapt.drawn_surroundings import hostile_surroundings
 from captures.packets import capture_header, record
 from expansions.hostile import doubled, hostile, nested
 from expansions.random_texts import Writer
-from listing.drawn import KINDS as DAMAGE
-from listing.drawn import some_file
+from listing.cases import KINDS as DAMAGE
+from listing.cases import some_file
 from rulesets.cases import PIECE, change_lines, change_pieces, written
 from runs import lines
 from runs import model as runs_model
@@ -342,6 +342,31 @@ def shown(draw):
     return Input("show", ("show", CAPTURE, VERDICTS, RULES, *INTERFACE, *some_views(draw), *adapts), files)
 
 
+# Reports
+
+def hostile_text(draw, text):
+    """A ruleset that is read as before, with comments of any bytes on some of its lines."""
+    marks = (b"<script>", b"</section>", b"&amp;", b"\xff\xfe", b"\0", b"\xef\xbf\xbe", b"\x1b[2J", b"\"'>",
+             draw.randbytes(9))
+    rows = text.split(b"\n")
+    for _ in range(draw.choice((0, 1, 2, 5))):
+        comment = draw.choice(marks).replace(b"\n", b"") * draw.choice((1, 1, 3, 3000))
+        place = draw.randrange(len(rows))
+        rows[place] += b"" if rows[place].endswith(b"\\") else b" # " + comment.rstrip(b"\\")
+    return b"\n".join(rows)
+
+
+def reported(draw):
+    """A capture of which a report is made, with lines of verdicts and maybe with states."""
+    given = shown(draw)
+    files = {**given.files, RULES: hostile_text(draw, given.files[RULES])}
+    more = ("--adapt",) if "--adapt" in given.words else ()
+    if draw.random() < 0.5:
+        files[LEFT] = damaged_states(draw).files[LEFT] if draw.random() < 0.5 else some_file(draw).octets
+        more = (*more, "--states", LEFT)
+    return Input("report", ("report", CAPTURE, VERDICTS, RULES, *INTERFACE, *more), files)
+
+
 # Command lines
 
 @lru_cache
@@ -371,13 +396,14 @@ MAKERS = ((made_ruleset, 20), (real_ruleset, 15), (edge_ruleset, 8), (adapted, 1
           (made_capture, 18), (damaged_messages, 15), (command_line, 12))
 # among this many inputs one is a large ruleset
 LARGE = 2000
-# how often an input is a file of states, and how often such a file is long; how often it is a view, or shows packets
-OF_STATES, LONG, VIEWS, SHOWN = 0.1, 0.02, 0.1, 0.1
+# how often an input is a file of states, and how often such a file is long; how often it is a view, shows packets, or
+# is a report
+OF_STATES, LONG, VIEWS, SHOWN, REPORTED = 0.1, 0.02, 0.1, 0.1, 0.1
 
 
 def drawn(seed):
-    """The input of a seed. Whether it is a file of states, or a view, or shows packets, is drawn apart, so all others
-    stay as they were without these."""
+    """The input of a seed. Whether it is a file of states, or a view, or shows packets, or is a report, is drawn apart.
+    So all others stay as they were without these."""
     apart = random.Random(f"states {seed}")
     if apart.random() < OF_STATES:
         return damaged_states(apart)
@@ -387,6 +413,9 @@ def drawn(seed):
     apart = random.Random(f"shown {seed}")
     if apart.random() < SHOWN:
         return shown(apart)
+    apart = random.Random(f"reported {seed}")
+    if apart.random() < REPORTED:
+        return reported(apart)
     draw = random.Random(seed)
     if draw.randrange(LARGE) == 0:
         return large_ruleset(draw)

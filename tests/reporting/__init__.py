@@ -1,0 +1,1 @@
+"""The program's command `report`, and what commands say of how far they have come."""
