@@ -11,6 +11,12 @@ PARTS = ("src", "specs", "proofs")
 IDLE_WORD = "rulesets"
 
 
+def named_crates():
+    """The crates of `crates.txt`, lowest first, each with the libraries that it names."""
+    lines = (line.partition("#")[0].partition(":") for line in (ROOT / "crates.txt").read_text().splitlines())
+    return {name.split()[0]: words.split() for name, colon, words in lines if colon}
+
+
 def sources():
     """All files of which programs are made."""
     yield ROOT / "crates.txt"

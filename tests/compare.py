@@ -26,18 +26,19 @@ import building
 TESTS = Path(__file__).resolve().parent
 # each is a package with a module `compare`
 WORDS = ("runs", "rulesets", "expansions", "tracking", "table", "steps", "commits", "messages", "schedules",
-         "published", "devices", "workers", "matrix", "standby", "listing", "telling", "changes", "showing", "adapt",
-         "faults", "hostile", "gateway", "manners")
+         "published", "devices", "workers", "matrix", "standby", "listing", "telling", "changes", "showing", "reporting",
+         "adapt", "faults", "hostile", "gateway", "manners", "documents")
 # those without answers written by hand
-WITHOUT_MODEL_ALONE = ("workers", "hostile", "gateway", "manners")
-# those of the program pfreplay, of message_answers, of schedule_answers, of published_answers and of run_answers; all
-# others are of the program `answers`
-OF_PFREPLAY = ("runs", "workers", "matrix", "standby", "listing", "telling", "changes", "showing", "adapt", "faults",
-               "hostile", "gateway", "manners")
+WITHOUT_MODEL_ALONE = ("workers", "hostile", "gateway", "manners", "documents")
+# those of the program pfreplay, of message_answers, of schedule_answers, of published_answers, of run_answers and of no
+# program; all others are of the program `answers`
+OF_PFREPLAY = ("runs", "workers", "matrix", "standby", "listing", "telling", "changes", "showing", "reporting", "adapt",
+               "faults", "hostile", "gateway", "manners")
 OF_MESSAGES = ("messages",)
 OF_SCHEDULES = ("schedules", "devices")
 OF_PUBLISHED = ("published",)
 OF_RUNS = ("devices",)
+OF_NO_PROGRAM = ("documents",)
 
 
 class Outcome(NamedTuple):
@@ -67,7 +68,7 @@ def build(words):
         building.published_answers()
     if set(words) & set(OF_RUNS):
         building.run_answers()
-    if set(words) - {*OF_PFREPLAY, *OF_MESSAGES, *OF_SCHEDULES, *OF_PUBLISHED, *OF_RUNS}:
+    if set(words) - {*OF_PFREPLAY, *OF_MESSAGES, *OF_SCHEDULES, *OF_PUBLISHED, *OF_RUNS, *OF_NO_PROGRAM}:
         building.built("answers", building.IDLE_WORD)
 
 

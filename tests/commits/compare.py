@@ -15,9 +15,9 @@ import steps.cases
 import steps.place_cases
 import steps.rows
 from answering import SHOWN, answers_of, differing, place_of_difference, show_lines
-from commits import place_kinds, place_rows, place_scripts, scripts, translation_scripts
-from commits.scripts import (in_batches, some_placed, some_runs_with_messages, some_scripts, some_translated,
-                             some_with_messages)
+from commits import cases, place_kinds, place_rows, place_scripts, translation_scripts
+from commits.cases import (in_batches, some_placed, some_runs_with_messages, some_scripts, some_translated,
+                           some_with_messages)
 from commits.standby import row_faults, with_sizes
 from faults.command import ends_lawfully
 from steps.written_packets import spoilt_sums
@@ -37,7 +37,7 @@ REFUSED_RUNS = ("a day of the open message", "flows, more of them and replies")
 
 def rows():
     """The scripts that are written out, with their lines."""
-    yield from scripts.rows()
+    yield from cases.rows()
     yield from translation_scripts.rows()
     yield from place_scripts.rows()
     yield from place_rows.rows()
@@ -147,7 +147,7 @@ def main():
     wrong += compare(command, "random, on several interfaces", list(some_placed(PLACED_PACKETS)), place_kinds.COUNTED)
     wrong += compare(command, "random, with messages", list(some_with_messages(RUNS_WITH_MESSAGES)))
     few = [*translation_scripts.rows(), *place_scripts.rows()][::REFUSED_STEP]
-    refused = [script for script, _ in (*scripts.rows(), *few)]
+    refused = [script for script, _ in (*cases.rows(), *few)]
     refused += [*some_scripts(REFUSED_PACKETS), *some_translated(REFUSED_PACKETS), *some_placed(REFUSED_PACKETS)]
     refused += [script for row, script in told_in_batches() if row.run.name in REFUSED_RUNS]
     sys.exit(not ends_lawfully("commits", command, b"".join(map(script_bytes, refused))) or bool(wrong))

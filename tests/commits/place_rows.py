@@ -9,7 +9,7 @@ from typing import NamedTuple
 from captures.packets import (ACK, ETHER_IPV4, LINKTYPE_ETHERNET, LINKTYPE_RAW, RST, UNREACHABLE, ethernet, icmp_error,
                               tcp, udp)
 from commits.model import Batch, Commit
-from commits.scripts import Script
+from commits.cases import Script
 from expansions.hosts import Interface
 from steps.rows import FIRST_SYN, KEYS
 from steps.run import INTERFACE, THREE, Run

@@ -4,7 +4,7 @@ rest on states which are bound to their interface, or to another one.
 
 from captures.packets import RST, SYN, icmp_error, tcp, udp
 from commits.model import Batch, Commit, Holds, Speculate
-from commits.scripts import Script
+from commits.cases import Script
 from commits.translation_scripts import EVALUATED, Committed, answer
 from steps.rows import FIRST_SYN
 from steps.run import THREE, Run, seed_of

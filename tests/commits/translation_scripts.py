@@ -9,7 +9,7 @@ from typing import NamedTuple
 
 from captures.packets import SYN, icmp_error, tcp, udp
 from commits.model import Batch, Commit, Holds, Speculate, packet_lines
-from commits.scripts import Script
+from commits.cases import Script
 from steps.marks import mark
 from steps.run import Run, seed_of
 from steps.translation_rows import SEEDS, TWO_PORTS

@@ -11,7 +11,7 @@ from pathlib import Path
 
 import building
 from answering import SHOWN, answers_of, differing, place_of_difference, show_lines
-from devices import refusals, rows, speculations
+from devices import cases, refusals, speculations
 from devices.model import expected
 from devices.scene import OUTPUTS, left_of
 from faults.run import NOT_REACHED
@@ -64,11 +64,11 @@ def seen_of(lines):
 
 def compare_rows(command):
     """How many rows end otherwise than is written out."""
-    all_rows = [row for workers in WORKERS for row in rows.rows(workers)]
+    all_rows = [row for workers in WORKERS for row in cases.rows(workers)]
     wrong = 0
     for (scene, end, sizes), lines in zip(all_rows, answers_of(command, [scene.script() for scene, *_ in all_rows])):
         left = seen_of(lines)
-        if left is None or (left.end, rows.sizes_of(left)) != (end, sizes):
+        if left is None or (left.end, cases.sizes_of(left)) != (end, sizes):
             wrong += 1
             print(f"  {scene.name}, {scene.workers} workers: {end}, {sizes}, and not {lines}")
     print(f"{len(all_rows)} rows written by hand, {wrong} differ")
@@ -77,14 +77,14 @@ def compare_rows(command):
 
 def whole_outputs():
     """What each output has at the end of the connection of the rows."""
-    whole = expected(rows.connection("whole", 0))
+    whole = expected(cases.connection("whole", 0))
     return dict(zip(OUTPUTS, whole.files()))
 
 
 def compare_scenes(command):
     """How many scenes leave something else than the model says, and which endings came up in none."""
     whole = whole_outputs()
-    scenes = [scene for workers in WORKERS for scene in rows.scenes(whole, workers)]
+    scenes = [scene for workers in WORKERS for scene in cases.scenes(whole, workers)]
     compared, counts = [], Counter()
     for scene, lines in zip(scenes, answers_of(command, [scene.script() for scene in scenes])):
         left = expected(scene)
@@ -113,7 +113,7 @@ def refused_in_turn(program, judge, scripts):
 
 def compare_refusals(program):
     scripts = ((f"{scene.name}, batches of {scene.batch}, {scene.workers} workers", scene.script())
-               for scene in rows.refused_scenes())
+               for scene in cases.refused_scenes())
     return refused_in_turn(program, refusals, scripts)
 
 
@@ -130,11 +130,11 @@ def compare(program, schedules):
 def model_alone():
     """The rows beside the model."""
     wrong = 0
-    for scene, end, sizes in rows.rows(0):
+    for scene, end, sizes in cases.rows(0):
         left = expected(scene)
-        if (left.end, rows.sizes_of(left)) != (end, sizes):
+        if (left.end, cases.sizes_of(left)) != (end, sizes):
             wrong += 1
-            print(f"  {scene.name}: {end}, {sizes}, and not {left.end}, {rows.sizes_of(left)}")
+            print(f"  {scene.name}: {end}, {sizes}, and not {left.end}, {cases.sizes_of(left)}")
     print(f"{wrong} rows differ from the model")
     sys.exit(bool(wrong))
 

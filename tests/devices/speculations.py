@@ -5,7 +5,7 @@ gate is told so. One that meets the committer ends the run, and what was handed 
 who takes a piece. Or the program ends without an answer.
 """
 
-from devices import rows
+from devices import cases
 from faults.rulesets import MEMORY
 from faults.trial import Unlawful
 from messages.rows import flows
@@ -36,7 +36,7 @@ def script_of(run, batches):
 
 def scripts():
     """Runs in which the same packets are evaluated again whichever tables the workers look at."""
-    yield script_of(run_of("two ports for three flows", rows.TWO_PORTS, flows(3)), (3,))
+    yield script_of(run_of("two ports for three flows", cases.TWO_PORTS, flows(3)), (3,))
     yield script_of(run_of("four flows", b"pass out", flows(4)), (2, 2))
 
 

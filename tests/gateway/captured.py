@@ -4,7 +4,7 @@ from captures.frames import TCP
 from captures.packets import FIN, checksum
 from gateway.network import INNER, INSIDE, OUTER_ADDRESS
 from gateway.seeing import IP_HEADER
-from gateway.traffic import ALL, ANSWERED
+from gateway.cases import ALL, ANSWERED
 
 # those that `nat` takes
 NAT_PORTS = range(50001, 65536)

@@ -23,7 +23,7 @@ from gateway import captured, judging
 from gateway.network import HERE, INNER, INNER_ADDRESS, OUTER, OUTER_ADDRESS, STATIONS, LeftOut, gateway
 from gateway.seeing import all_seen
 from gateway.taking import taking
-from gateway.traffic import CONVERSATIONS, LAST, hosts
+from gateway.cases import CONVERSATIONS, LAST, hosts
 from runs.comparison import Comparison
 
 RULES = HERE / "rules.conf"

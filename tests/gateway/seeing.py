@@ -6,7 +6,7 @@ from typing import NamedTuple
 from captures.frames import ICMP, RAW, Packet, datagram_of, view
 from captures.model import read_header, records_of
 from gateway.network import INNER, INSIDE, OUTER_ADDRESS
-from gateway.traffic import ALL, Conversation
+from gateway.cases import ALL, Conversation
 
 # an ICMP message begins behind this many bytes of a packet without options, and what an error quotes behind 8 more
 IP_HEADER, ERROR_HEADER = 20, 8

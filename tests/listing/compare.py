@@ -17,7 +17,7 @@ sys.dont_write_bytecode = True
 
 import building
 from faults.command import ends_lawfully
-from listing import drawn, judged, model, rows
+from listing import cases, judged, model, rows
 from runs import model as runs_model
 from runs.comparison import a_line
 from runs.model import Outcome, cannot_open, failed
@@ -213,7 +213,7 @@ def after_run_by_model(comparison, number):
 # Drawn files
 
 ENDINGS = ("listed", "listed with damage", "refused at the first line", "refused at a later line")
-IN_FILES = (*ENDINGS, "without damage", *(kind.__name__ for kind in drawn.KINDS))
+IN_FILES = (*ENDINGS, "without damage", *(kind.__name__ for kind in cases.KINDS))
 
 
 def ending_of(given, expected):
@@ -228,7 +228,7 @@ def counts_of_file(given, expected):
 
 def drawn_file(comparison, number):
     """A drawn file."""
-    given = drawn.file_at(number)
+    given = cases.file_at(number)
     way = WAYS[number % len(WAYS)]
     expect_listed(comparison, f"file {number}, {', '.join(given.damage)}", given.octets, (way,))
     return counts_of_file(given, model.answer(given.octets, False))
@@ -236,7 +236,7 @@ def drawn_file(comparison, number):
 
 def drawn_file_by_model(comparison, number):
     """The model lists one without damage, and answers the same to both formats of one that it refuses."""
-    given = drawn.file_at(number)
+    given = cases.file_at(number)
     shown, spelled = (model.answer(given.octets, as_json) for as_json in (False, True))
     lines = 0 if shown.status else given.octets.count(b"\n")
     comparison.expect(f"file {number}, {', '.join(given.damage)}", (spelled.status, spelled.err, lines, lines),

@@ -1,4 +1,4 @@
-"""Runs pfreplay on each scene of `rows` with every choice of workers and batches, and compares what it leaves with what
+"""Runs pfreplay on each scene of `cases` with every choice of workers and batches, and compares what it leaves with what
 is worked out by hand, and with the model.
 
 In some of the scenes a call fails. The command `check` has no workers and is run once.
@@ -12,7 +12,7 @@ from pathlib import Path
 import building
 from faults import replay
 from faults.trial import Fault, Trial, put_name
-from matrix import rows
+from matrix import cases
 from runs import model
 from runs.check_cases import FITTING
 from runs.comparison import Comparison
@@ -34,14 +34,14 @@ def expect_facts(comparison, name, scene, outcome):
 
 def compare_model(comparison):
     """The model on each scene in which no call fails."""
-    for name, scene in rows.named(rows.SCENES):
+    for name, scene in cases.named(cases.SCENES):
         expect_facts(comparison, f"model: {name}", scene, model.run(scene.case))
 
 
 def compare_scenes(comparison):
     """How many runs there are of scenes in which no call fails."""
     runs = 0
-    for name, scene in rows.named(rows.SCENES):
+    for name, scene in cases.named(cases.SCENES):
         expected = model.run(scene.case)
         for choice in (Choice(*pair) for pair in product(WORKERS, BATCHES)):
             seen = run_of(comparison, scene.case, choice)
@@ -68,7 +68,7 @@ def failing_run(comparison, failing, choice):
 def compare_failing(comparison):
     """How many runs there are in which a call fails."""
     runs = 0
-    for name, failing in rows.named(rows.FAILING_SCENES):
+    for name, failing in cases.named(cases.FAILING_SCENES):
         for choice in (Choice(*pair) for pair in product(WORKERS, failing.batches)):
             has_failed, seen = failing_run(comparison, failing, choice)
             comparison.expect(f"{name}, {choice}: the call fails", True, has_failed)
@@ -79,7 +79,7 @@ def compare_failing(comparison):
 
 def compare_check(comparison):
     """One run of the command `check`."""
-    text, answer = rows.EMPTY_RULESET
+    text, answer = cases.EMPTY_RULESET
     comparison.prepare()
     comparison.rules.write_bytes(text)
     comparison.expect("an_empty_ruleset", Outcome(answer, b"", 0),
@@ -90,7 +90,7 @@ def compare_check(comparison):
 def end(comparison, runs):
     """Tells what went wrong, and exits with 1 if anything did, or if there was nothing to compare."""
     comparison.show(MOST_SHOWN)
-    print(f"{len(rows.SCENES) + len(rows.FAILING_SCENES) + 1} scenes, {runs}, {comparison.count} comparisons, "
+    print(f"{len(cases.SCENES) + len(cases.FAILING_SCENES) + 1} scenes, {runs}, {comparison.count} comparisons, "
           f"{len(comparison.wrong)} not as expected")
     sys.exit(bool(comparison.wrong) or comparison.count == 0)
 

@@ -23,9 +23,9 @@ sys.dont_write_bytecode = True
 
 from answering import SHOWN
 from captures.packets import checksum
-from messages import (answers, cut, happenings, interfaces, queue, random_events, random_messages, random_runs, rows,
+from messages import (answers, happenings, interfaces, model, queue, random_events, random_messages, random_runs, rows,
                       texts)
-from messages.cut import Origin
+from messages.model import Origin
 from messages.events import REMOVED, packet_of
 from messages.message import DIRECTIONS, INS, IP_HEADER, size
 from messages.reading import Refusal, read, read_in_file, stream_of
@@ -105,13 +105,13 @@ def to_hold(states):
 def on_the_way(origin, packets, closed, places):
     """What is wrong with the messages that are out after each of some numbers of packets."""
     for place in places:
-        if cut.online(origin, packets[:place]) != list(chain.from_iterable(closed[:place])):
+        if model.online(origin, packets[:place]) != list(chain.from_iterable(closed[:place])):
             yield f"behind {place} packets other messages are out by the cut and by the queue"
 
 
 def list_faults(draw, origin, packets, closed, left):
     """What is wrong with the messages of a list of events, which are read and taken here."""
-    messages = cut.whole(origin, packets)
+    messages = model.whole(origin, packets)
     if messages != list(chain.from_iterable(closed)):
         yield "the cut and the queue give other messages"
     places = {0, len(packets), *(draw.randint(0, len(packets)) for _ in range(SEEN_ON_THE_WAY))}

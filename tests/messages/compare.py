@@ -19,8 +19,8 @@ from concurrent.futures import ProcessPoolExecutor
 
 import building
 from answering import TIME_LIMIT, answers_of, differing, place_of_difference, show_lines
-from messages import answers, check, cut, random_events, random_runs, texts
-from messages.cut import Origin
+from messages import answers, check, model, random_events, random_runs, texts
+from messages.model import Origin
 from messages.events import MADE, TOUCHED, packet_of
 from messages.run import told
 from messages.samples import five_messages
@@ -81,7 +81,7 @@ def event_bytes(event):
 
 def list_bytes(origin, packets):
     """The events of packets as the program reads them."""
-    events = cut.events_of(packets)
+    events = model.events_of(packets)
     names = b"".join(bytes([len(name)]) + name for name in origin.interfaces)
     return (bytes([len(origin.interfaces)]) + names + origin.checksum + origin.creator.to_bytes(4)
             + len(events).to_bytes(4) + b"".join(map(event_bytes, events)))
@@ -105,17 +105,17 @@ def run_lists():
 
 def show_messages(origin, packets, expected, seen):
     place = place_of_difference(expected, seen)
-    print(f"{origin}, {len(cut.events_of(packets))} events, message {place}")
+    print(f"{origin}, {len(model.events_of(packets))} events, message {place}")
     show_lines(place, expected, seen)
 
 
 def compare_lists(title, lists):
     """How many lists of events give other messages."""
     lists = list(lists)
-    expected = [[message.text() for message in cut.whole(origin, packets)] for origin, packets in lists]
+    expected = [[message.text() for message in model.whole(origin, packets)] for origin, packets in lists]
     seen = answers_of(building.message_answers("events"), [list_bytes(origin, packets) for origin, packets in lists])
     count = differing(((*each, messages, lines) for each, messages, lines in zip(lists, expected, seen)), show_messages)
-    events = sum(len(cut.events_of(packets)) for _, packets in lists)
+    events = sum(len(model.events_of(packets)) for _, packets in lists)
     print(f"{len(lists)} {title} with {events} events: {sum(map(len, expected))} messages, {count} differ")
     return count
 

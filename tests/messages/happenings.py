@@ -2,7 +2,7 @@
 
 from collections import Counter
 
-from messages.cut import entries_of, message_of, parts_of, size_of
+from messages.model import entries_of, message_of, parts_of, size_of
 from messages.events import MADE, REMOVED
 from messages.message import INS, KINDS, MOST, UPD_C
 

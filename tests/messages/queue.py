@@ -9,7 +9,7 @@
 - INS and UPD_C say the states as they are at closing.
 """
 
-from messages.cut import record_of
+from messages.model import record_of
 from messages.events import MADE, REMOVED
 from messages.message import DEL_C, INS, KINDS, MOST, UPD_C, Message, size
 

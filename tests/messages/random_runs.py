@@ -11,7 +11,7 @@ from captures.packets import LINKTYPE_RAW
 from expansions.options import TIMEOUT_SECONDS
 from steps.random_runs import Packets, datagram_of, with_packets
 from steps.run import Run
-from tracking import random_cases
+from tracking import cases
 
 SEED = 20261128
 RUNS = 600
@@ -51,7 +51,7 @@ class Bursts(Packets):
             source, destination = outside, inside
         else:
             source, destination = inside, outside
-        packet = random_cases.first_packet(draw, "tcp", self.clock)
+        packet = cases.first_packet(draw, "tcp", self.clock)
         return datagram_of(draw, protocol, source, destination, packet)
 
     def changed(self, datagram):

@@ -4,8 +4,8 @@ import hashlib
 from itertools import chain
 from typing import NamedTuple
 
-from messages import cut, queue
-from messages.cut import Origin
+from messages import model, queue
+from messages.model import Origin
 from messages.events import Followed, packet_of
 from steps.replay import Record, steps_of
 from steps.states import StateTable
@@ -23,11 +23,11 @@ class Told(NamedTuple):
 
     def whole(self):
         """The messages of the run, by cutting the finished list of events."""
-        return cut.whole(self.origin, self.packets)
+        return model.whole(self.origin, self.packets)
 
     def online(self, count):
         """Those that are out after `count` packets, while the run goes on."""
-        return cut.online(self.origin, self.packets[:count])
+        return model.online(self.origin, self.packets[:count])
 
     def closed(self):
         """By the queue: those that close at each packet, and behind these the ones at the end."""

@@ -15,7 +15,7 @@ from answering import differing, place_of_difference, show_lines
 from faults.command import ends_lawfully
 from faults.published import ending_of
 from faults.trial import Unlawful
-from published import drawn, written
+from published import cases, written
 from published.model import Expected
 from schedules.compare import answers, script_bytes
 from table import reach
@@ -117,7 +117,7 @@ def written_scripts():
 
 def refused_scripts():
     """Those with which each allocation is refused: they have one answer, so that this tells what was refused."""
-    exact = (script for script in drawn.scripts("random", 20 * REFUSED) if Expected(script).is_exact())
+    exact = (script for script in cases.scripts("random", 20 * REFUSED) if Expected(script).is_exact())
     return written_scripts() + list(islice(exact, REFUSED))
 
 
@@ -132,5 +132,5 @@ def main():
     command = building.published_answers()
     wrong = compare_model() + compare(command, "written out", written_scripts())
     for kind, count in COUNTS.items():
-        wrong += compare(command, kind, drawn.scripts(kind, count))
+        wrong += compare(command, kind, cases.scripts(kind, count))
     sys.exit(bool(wrong) or not all(list(are_refused_lawfully(command))))

@@ -21,7 +21,7 @@ from itertools import chain, cycle, islice
 
 import building
 from answering import answers_of, differing, place_of_difference, show_lines
-from schedules import written
+from schedules import cases
 from schedules.machine import (Shape, all_orders, count_behind, evenly_drawn_order, orders_by_tables, seen_tables,
                                unevenly_drawn_order)
 from schedules.model import Script, expected_of, known_of
@@ -129,7 +129,7 @@ def compare(command, title, scripts):
 def wrong_counts():
     """How many counts of orders and of choices are others than those that are written out."""
     wrong = 0
-    for shape, (orders, choices) in written.COUNTS.items():
+    for shape, (orders, choices) in cases.COUNTS.items():
         found = (count_behind(shape), len(orders_by_tables(shape)))
         if orders <= COUNTED:
             listed = list(all_orders(shape))
@@ -143,7 +143,7 @@ def wrong_counts():
 def wrong_written():
     """How many scripts that are written out differ from the model."""
     wrong = 0
-    for script, verdicts, surely, maybe in written.rows():
+    for script, verdicts, surely, maybe in cases.rows():
         expected = expected_of(script)
         seen = [line for line in script.known.pieces if line[0].isdecimal()]
         if (seen, expected.surely, expected.maybe) != (verdicts, surely, maybe):
@@ -156,7 +156,7 @@ def wrong_written():
 def compare_model():
     """How much that is written out differs from the model."""
     wrong = wrong_counts() + wrong_written()
-    print(f"orders of {len(written.COUNTS)} shapes, and {len(list(written.rows()))} scripts that are written out: "
+    print(f"orders of {len(cases.COUNTS)} shapes, and {len(list(cases.rows()))} scripts that are written out: "
           f"{wrong} differ from the model")
     return wrong
 
@@ -167,7 +167,7 @@ def model_alone():
 
 def comparisons():
     """What is compared, each with a title."""
-    yield "written out", (script for script, *_ in written.rows())
+    yield "written out", (script for script, *_ in cases.rows())
     for shape in SMALL:
         yield f"{shape.name()}, all orders with each row", with_each_row(shape, all_orders(shape))
     for shape in MIDDLE:

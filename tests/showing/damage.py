@@ -6,7 +6,7 @@ import re
 
 from captures.model import HEADER, Refused, read_header, records_of
 from changes import edits
-from listing import drawn
+from listing import cases
 from showing.verdicts import REASONS
 
 NUMBERS = (0, 1, 2, 3, 7, 99, 2**32 - 1, 2**32, 2**64 - 1, 2**64, "-")
@@ -134,7 +134,7 @@ def no_rule(_draw, question):
     return question._replace(case=question.case._replace(rules=b""))
 
 
-OF_LINES = {kind.__name__: of_octets(kind) for kind in drawn.KINDS}
+OF_LINES = {kind.__name__: of_octets(kind) for kind in cases.KINDS}
 OF_QUESTIONS = (other_number, other_word, other_name, line_too_many, line_too_few, record_left_out, record_doubled,
                 records_swapped, rule_left_out, with_fault, no_rule)
 KINDS = {**OF_LINES, **{kind.__name__: kind for kind in OF_QUESTIONS}}

@@ -10,7 +10,7 @@ from typing import NamedTuple
 import messages.rows
 import steps.rows
 from captures.packets import ACK, SYN, echo, ipv4
-from matrix.rows import FLOW_KEYS
+from matrix.cases import FLOW_KEYS
 from messages.answers import answers, file_answers, first_answers
 from messages.message import Delete, Message
 from messages.rows import flow

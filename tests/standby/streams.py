@@ -8,8 +8,8 @@ writes. Damage comes to messages and to bytes.
 import random
 from typing import NamedTuple
 
-from messages import cut, random_events
-from messages.cut import Origin
+from messages import model, random_events
+from messages.model import Origin
 from messages.events import packet_of
 from messages.message import HEADER, IP_HEADER, SUBHEADER, Message
 from messages.random_messages import LONG_WORDS, some_delete, some_insert, some_number, some_update
@@ -45,7 +45,7 @@ def spelled(texts, form):
 def of_events(draw, _):
     """The messages of a random list of events."""
     packets = list(map(packet_of, random_events.some_list(draw).happenings))
-    return cut.whole(Origin((b"em0",), draw.randbytes(16), 1), packets)
+    return model.whole(Origin((b"em0",), draw.randbytes(16), 1), packets)
 
 
 def of_run(_, number):

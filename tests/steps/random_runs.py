@@ -7,7 +7,7 @@ import random
 import socket
 
 import tracking.model
-import tracking.random_cases
+import tracking.cases
 from captures.frames import ICMP, TCP, UDP
 from captures.model import Refused
 from captures.packets import (ACK, ETHER_ARP, ETHER_IPV4, ETHER_IPV6, FIN, IGMP, LINKTYPE_ETHERNET, LINKTYPE_LOOPBACK,
@@ -177,7 +177,7 @@ class Packets:
         protocol = draw.choice(PROTOCOLS)
         source, destination = draw.choice(((True, False),) * 5 + ((False, True),) * 4 + ((True, True), (False, False)))
         ports = [draw.choice(IDENTIFIERS)] * 2 if protocol == ICMP else draw.choices(PORTS[:3], k=2)
-        packet = tracking.random_cases.first_packet(draw, "tcp", self.clock)
+        packet = tracking.cases.first_packet(draw, "tcp", self.clock)
         return datagram_of(draw, protocol, (self.host(source), ports[0]), (self.host(destination), ports[1]), packet)
 
     def message(self):
@@ -201,7 +201,7 @@ class Packets:
         source, destination = (outside, inside) if direction == "in" else (inside, outside)
         packet = tracking.model.Packet(direction, self.clock, 40, entry.state.kind)
         if entry.state.kind == "tcp" and draw.random() < 0.4:
-            packet = tracking.random_cases.segment(draw, entry.state, packet)
+            packet = tracking.cases.segment(draw, entry.state, packet)
         elif entry.state.kind == "tcp":
             ends = entry.state.maker, entry.state.other
             packet = polite(draw, *(ends if direction == entry.state.direction else reversed(ends)), packet)

@@ -1,7 +1,7 @@
 """Random runs with translation: connections from the inside and to own addresses, their packets both ways, and errors
 about packets as they are written."""
 
-import tracking.random_cases
+import tracking.cases
 from captures.frames import ICMP, TCP, UDP
 from captures.packets import ipv4, summed_message
 from rulesets.tree import Network
@@ -49,7 +49,7 @@ class TranslatedPackets(Packets):
 
     def between(self, protocol, source, destination):
         """A packet between two ends."""
-        packet = tracking.random_cases.first_packet(self.draw, "tcp", self.clock)
+        packet = tracking.cases.first_packet(self.draw, "tcp", self.clock)
         datagram = datagram_of(self.draw, protocol, source, destination, packet)
         return without_sum(datagram) if self.draw.random() < 0.05 else datagram
 

@@ -13,7 +13,7 @@ import building
 from faults.command import ends_lawfully
 from table import reach
 from table.kinds import all_kinds
-from table.lists import random_lists, refusals
+from table.cases import random_lists, refusals
 from table.model import Table, answer
 from table.rows import rows
 from table.sharing import sharing_lists

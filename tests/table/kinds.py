@@ -2,7 +2,7 @@
 used again, of keys that are near one another, and of rules that are asked how many states they have.
 """
 
-from table.lists import BINDINGS, GREATEST_CLOCK, KEY, RULES, Writer
+from table.cases import BINDINGS, GREATEST_CLOCK, KEY, RULES, Writer
 from table.model import SIDES
 
 NO_LIMIT = 100000

@@ -5,7 +5,7 @@ purged what has no time left, and behind it.
 """
 
 from table.kinds import NO_LIMIT, KindWriter, own_key, shuffled
-from table.lists import GREATEST_CLOCK
+from table.cases import GREATEST_CLOCK
 from table.model import ALL, SIDES, State, word_of
 
 # there is one more, to which none is bound

@@ -16,7 +16,7 @@ import steps.translation_texts
 from captures.model import Refused
 from expansions import expected
 from expansions.random_texts import Writer
-from listing import drawn
+from listing import cases
 from rulesets.cases import change_lines, change_pieces
 from runs.case import EXAMPLES
 from runs.filter_cases import MANY_RULES
@@ -162,7 +162,7 @@ def damage_of(kind):
 
 
 DAMAGES = {"counters of other rules": of_other_rules, "a number too large": too_large,
-           **{f"counters with {kind.__name__}": damage_of(kind) for kind in drawn.KINDS}}
+           **{f"counters with {kind.__name__}": damage_of(kind) for kind in cases.KINDS}}
 NO_COUNTERS, RIGHT_COUNTERS = "no counters", "right counters"
 
 

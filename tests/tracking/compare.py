@@ -9,7 +9,7 @@ from pathlib import Path
 
 import building
 from answering import differing
-from tracking import model, random_cases, reading
+from tracking import cases, model, reading
 
 HERE = Path(__file__).resolve().parent
 RANDOM_CONVERSATIONS = 20000
@@ -87,7 +87,7 @@ def compare_written(command):
 
 def compare_random(command):
     """How many random conversations differ."""
-    conversations = list(random_cases.conversations(RANDOM_CONVERSATIONS))
+    conversations = list(cases.conversations(RANDOM_CONVERSATIONS))
     expected = [list(model.lines(conversation)) for conversation in conversations]
     names = [f"random conversation {place}" for place in range(len(conversations))]
     count = differing(zip(names, conversations, expected, answers(command, conversations)), show)

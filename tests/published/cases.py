@@ -8,7 +8,7 @@ import random
 
 from published.model import CHANGES, Script
 from table.kinds import NO_LIMIT, KindWriter, own_key
-from table.lists import BINDINGS, RandomWriter
+from table.cases import BINDINGS, RandomWriter
 from table.model import State
 
 SEED = 20261130
