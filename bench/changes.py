@@ -18,7 +18,8 @@ sys.dont_write_bytecode = True
 
 from flows import PACKETS, RULES
 from make_flows import write_flows
-from run import FLAGS, OUTPUTS, best_seconds, peak_memory, print_row, replay_command, words_with_program
+from running import (FLAGS, OUTPUTS, best_seconds, peak_memory, print_head, print_row, replay_command,
+                     words_with_program, written)
 
 # a server more, and one that is closed
 NEW_RULES = RULES + """\
@@ -39,8 +40,7 @@ class Contest:
     def __init__(self, folder, program, count):
         self.count = count
         capture = folder / "capture.pcap"
-        with open(capture, "wb") as file:
-            write_flows(count, file)
+        written(capture, write_flows, count)
         self.old, self.new = folder / "old.conf", folder / "new.conf"
         self.old.write_text(RULES)
         self.new.write_text(NEW_RULES)
@@ -71,8 +71,7 @@ def main():
     parser = argparse.ArgumentParser()
     parser.add_argument("--packets", nargs="+", type=int, default=PACKETS)
     words = words_with_program(parser)
-    print_row(["packets", "changed", "two runs, s", "diff, s", "peak MB", f"diff / runs (goal {GOAL})"])
-    print_row(["---"] * 6)
+    print_head(["packets", "changed", "two runs, s", "diff, s", "peak MB", f"diff / runs (goal {GOAL})"])
     for count in words.packets:
         print_row(row_of(words.program, count))
 

@@ -13,8 +13,6 @@ without, and these beside another program, which may know no messages.
 """
 
 import argparse
-import os
-import shutil
 import sys
 import tempfile
 from collections import Counter
@@ -23,8 +21,9 @@ from pathlib import Path
 sys.dont_write_bytecode = True
 
 from make_flows import REDIRECTED, write_flows, write_translated_flows
-from run import (MEGABYTE, OUTPUTS, best_seconds, count_records, peak_memory, print_row, replay_command,
-                 seconds, tcpdump_command, words_with_program)
+from running import (MEGABYTE, OUTPUTS, best_seconds, count_lines, count_records, goal_line, load_printed, need_tools,
+                     outcomes, peak_memory, print_head, print_row, replay_command, seconds, tcpdump_command,
+                     words_with_program, written)
 
 # ten rules that make states; the filter passes the packets that they and their states pass
 RULES = """\
@@ -80,8 +79,7 @@ class Contest:
         self.passed, self.rewritten = folder / "passed.pcap", folder / "rewritten.pcap"
         rules = folder / "rules"
         rules.write_text(RULES)
-        with open(self.capture, "wb") as file:
-            write_flows(count, file, stay)
+        written(self.capture, write_flows, count, stay)
         self.program = replay_command(program, self.capture, rules, **self.files)
         # the same run without what it writes
         self.silent = replay_command(program, self.capture, rules)
@@ -111,8 +109,7 @@ class TranslatedContest:
         self.files = {name: folder / f"translated {name}" for name in OUTPUTS}
         rules = folder / "translated rules"
         rules.write_text(TRANSLATED_RULES)
-        with open(self.capture, "wb") as file:
-            self.expected = Counter(write_translated_flows(count, file))
+        self.expected = Counter(written(self.capture, write_translated_flows, count))
         self.untranslated = Contest(folder, program, count)
         self.program = replay_command(program, self.capture, rules, **self.files)
         # the same run without what it writes
@@ -158,16 +155,6 @@ class ToldContest:
 def tcprewrite_command(capture, rewritten, rewrite):
     """The words that rewrite a capture."""
     return ["tcprewrite", f"--infile={capture}", f"--outfile={rewritten}", *rewrite]
-
-
-def count_lines(file):
-    return file.read_bytes().count(b"\n")
-
-
-def outcomes(verdicts):
-    """How many of the packets have come to each verdict and reason."""
-    with open(verdicts, encoding="ascii") as lines:
-        return Counter(" ".join(line.split()[3:5]) for line in lines)
 
 
 def speed_row(folder, program, count):
@@ -224,26 +211,24 @@ def standing_row(folder, program, states):
 
 
 def print_speeds(folder, program, counts):
-    print_row(["packets", "MB", "states at the end", "pfreplay packets/s", "peak MB", "tcpdump packets/s", "peak MB",
-               "tcprewrite packets/s", "peak MB", "pfreplay / tcpdump", "/ tcprewrite", "to /dev/null / tcprewrite"])
-    print_row(["---:"] * 12)
+    print_head(["packets", "MB", "states at the end", "pfreplay packets/s", "peak MB", "tcpdump packets/s", "peak MB",
+                "tcprewrite packets/s", "peak MB", "pfreplay / tcpdump", "/ tcprewrite", "to /dev/null / tcprewrite"])
     for count in counts:
         print_row(speed_row(folder, program, count))
 
 
 def print_standing(folder, program, numbers):
     print()
-    print_row(["states", f"peak MB, {SHORT} packets", f"peak MB, {LONG} packets", "pfreplay packets/s", "/ tcprewrite"])
-    print_row(["---:"] * 5)
+    print_head(["states", f"peak MB, {SHORT} packets", f"peak MB, {LONG} packets", "pfreplay packets/s",
+                "/ tcprewrite"])
     for states in numbers:
         print_row(standing_row(folder, program, states))
 
 
 def print_translated(folder, program, counts):
-    print_row(["packets", "MB", "states at the end", "pfreplay packets/s", "peak MB", "untranslated packets/s",
-               "peak MB", "tcprewrite packets/s", "peak MB", "pfreplay / untranslated", "/ tcprewrite",
-               "to /dev/null / tcprewrite"])
-    print_row(["---:"] * 12)
+    print_head(["packets", "MB", "states at the end", "pfreplay packets/s", "peak MB", "untranslated packets/s",
+                "peak MB", "tcprewrite packets/s", "peak MB", "pfreplay / untranslated", "/ tcprewrite",
+                "to /dev/null / tcprewrite"])
     for count in counts:
         words, ratios = translated_row(folder, program, count)
         print_row(words)
@@ -252,10 +237,8 @@ def print_translated(folder, program, counts):
 
 
 def print_told(folder, program, counts, before):
-    names = ["packets", "states at the end", "MB of messages", "with messages packets/s", "peak MB",
-             "without packets/s", "peak MB", "with / without", *(["without / the other program"] if before else [])]
-    print_row(names)
-    print_row(["---:"] * len(names))
+    print_head(["packets", "states at the end", "MB of messages", "with messages packets/s", "peak MB",
+                "without packets/s", "peak MB", "with / without", *(["without / the other program"] if before else [])])
     for count in counts:
         words, ratios = told_row(folder, program, count, before)
         print_row(words)
@@ -265,7 +248,7 @@ def print_told(folder, program, counts, before):
 
 def print_goals(ratios, others=("the untranslated packets a second", "tcprewrite's"), goals=GOALS):
     for other, goal, ratio in zip(others, goals, ratios):
-        print(f"{ratio:.3f} of {other}, the goal of {goal:.2f} is {'met' if ratio >= goal else 'missed'}")
+        print(f"{ratio:.3f} of {other}, {goal_line(f'{goal:.2f}', ratio >= goal)}")
 
 
 def main():
@@ -276,12 +259,9 @@ def main():
     parser.add_argument("--messages", action="store_true", help="prints the table of runs that tell a standby, alone")
     parser.add_argument("--before", type=Path, help="another program, beside which runs without messages are measured")
     words = words_with_program(parser)
-    for needed in () if words.messages else ("tcprewrite",) if words.nat else ("tcpdump", "tcprewrite"):
-        if shutil.which(needed) is None:
-            sys.exit(f"{needed} isn't there: apt-get update && apt-get install -y tcpdump tcpreplay time")
-    program = words.program.resolve()
-    print(f"load {os.getloadavg()[0]:.1f}")
-    with tempfile.TemporaryDirectory() as name:
+    need_tools(*(() if words.messages else ("tcprewrite",) if words.nat else ("tcpdump", "tcprewrite")))
+    program = words.program
+    with load_printed(), tempfile.TemporaryDirectory() as name:
         folder = Path(name)
         if words.messages:
             print_told(folder, program, words.packets, words.before and words.before.resolve())
@@ -292,7 +272,6 @@ def main():
                 print_speeds(folder, program, words.packets)
             if words.states:
                 print_standing(folder, program, words.states)
-    print(f"load {os.getloadavg()[0]:.1f}")
 
 
 if __name__ == "__main__":

@@ -4,13 +4,13 @@
     bench/gate.py [COMMAND WORDS..]
 
 The command runs at the top of the repository, and its output goes on as it comes. Behind it stands a table for
-docs/GATE.md: for each crate the processor minutes of its proofs, of its unit tests' proofs and of its must-fail
-edits, and how many edits it has; and the minutes by the clock. The prover's processes are looked at in short turns, so what
-one of them does behind its last look isn't counted. Those of other sessions of the machine (`setsid`) aren't either.
+docs/GATE_HISTORY.md: for each crate the processor minutes of its proofs, of its unit tests' proofs and of its must-fail
+edits, and how many edits it has; and the minutes by the clock. The prover's processes are looked at in short turns, so
+what one of them does behind its last look isn't counted. Those of other sessions of the machine (`setsid`) aren't
+either.
 """
 
 import os
-import re
 import subprocess
 import sys
 import threading
@@ -18,7 +18,13 @@ import time
 from collections import Counter
 from pathlib import Path
 
-ROOT = Path(__file__).resolve().parent.parent
+sys.dont_write_bytecode = True
+
+from running import table_row
+
+# found where running says
+from building import CRATES, ROOT, named_crates
+
 TICKS = os.sysconf("SC_CLK_TCK")
 # seconds between two looks
 TURN = 0.2
@@ -81,28 +87,21 @@ class Account:
         return found
 
 
-def crates():
-    lines = (ROOT / "crates.txt").read_text().splitlines()
-    return [match[1] for match in (re.match(r"(\w+)[^:#]*:", line) for line in lines) if match]
-
-
 def edits_of(crate):
-    return len(list((ROOT / "crates" / crate / "must-fail").glob("*.edit")))
-
-
-def row(name, cells):
-    return f"| {name} | " + " | ".join(cells) + " |"
+    return len(list((CRATES / crate / "must-fail").glob("*.edit")))
 
 
 def table(minutes):
-    yield row("Crate", ["Proofs", "Unit tests", "Must-fail edits", "In all", "Number of edits"])
+    crates = list(named_crates())
+    yield table_row(["Crate", "Proofs", "Unit tests", "Must-fail edits", "In all", "Number of edits"])
     yield "|---|---|---|---|---|---|"
-    for crate in crates():
+    for crate in crates:
         parts = [minutes[crate, kind] for kind in KINDS]
         cells = [f"{part:.1f}" if part else "-" for part in parts]
-        yield row(crate, [*cells, f"{sum(parts):.1f}", str(edits_of(crate))])
-    parts = [sum(minutes[crate, kind] for crate in crates()) for kind in KINDS]
-    yield row("in all", [*(f"{part:.0f}" for part in parts), f"{sum(parts):.0f}", str(sum(map(edits_of, crates())))])
+        yield table_row([crate, *cells, f"{sum(parts):.1f}", str(edits_of(crate))])
+    parts = [sum(minutes[crate, kind] for crate in crates) for kind in KINDS]
+    edits = sum(map(edits_of, crates))
+    yield table_row(["in all", *(f"{part:.0f}" for part in parts), f"{sum(parts):.0f}", str(edits)])
 
 
 def main():
@@ -117,7 +116,8 @@ def main():
         account.is_over.set()
         keeper.join()
     print(*table(account.minutes()), sep="\n")
-    print(f"{(time.monotonic() - begin) / 60:.1f} minutes by the clock, {len(os.sched_getaffinity(0))} processors: {' '.join(command)}")
+    print(f"{(time.monotonic() - begin) / 60:.1f} minutes by the clock,",
+          f"{len(os.sched_getaffinity(0))} processors: {' '.join(command)}")
     sys.exit(status)
 
 

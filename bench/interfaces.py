@@ -24,7 +24,8 @@ sys.dont_write_bytecode = True
 from flows import RULES
 from make_flows import write_flows
 from rules import vain_ranges
-from run import best_seconds, count_records, peak_memory, print_row, replay_command, words_with_program
+from running import (best_seconds, count_records, goal_line, peak_memory, print_head, print_row, replay_command,
+                     words_with_program, written)
 
 HEADER, RECORD = 24, 16
 # the addresses of a frame's IP header behind its link header
@@ -69,8 +70,7 @@ class Contest:
     def __init__(self, folder, program, packets):
         self.folder, self.program = folder, program
         whole = folder / "whole.pcap"
-        with open(whole, "wb") as file:
-            write_flows(packets, file)
+        written(whole, write_flows, packets)
         self.capture = whole.read_bytes()
         self.count = count_records(self.capture)
 
@@ -110,9 +110,8 @@ def instructions(command):
 
 def print_kinds(contest, counted):
     """Prints a row for each kind of rules and number of captures."""
-    print_row(["rules", "captures", "packets", "instructions a packet" if counted else "ns a packet", "of one capture",
-               "peak MB"])
-    print_row(["---"] + ["---:"] * 5)
+    print_head(["rules", "captures", "packets", "instructions a packet" if counted else "ns a packet", "of one capture",
+                "peak MB"], left=1)
     files = {count: contest.captures(count, lambda number, record: interface_of(record, count)) for count in CAPTURES}
     for kind, text in KINDS.items():
         rules = contest.rules(kind, text)
@@ -125,8 +124,7 @@ def print_kinds(contest, counted):
             print_row([kind, str(count), str(contest.count), f"{cost / contest.count:.0f}", f"{cost / costs[0]:.3f}",
                        peak_memory(command)])
             if count in GOALS and not counted:
-                met = cost / costs[0] <= GOALS[count]
-                print(f"the goal of {GOALS[count]} is {'met' if met else 'missed'}")
+                print(goal_line(GOALS[count], cost / costs[0] <= GOALS[count]))
 
 
 def print_early(contest, workers):
@@ -138,9 +136,8 @@ def print_early(contest, workers):
     rules = contest.rules("many", "\n".join([*vain, "pass all no state\n"]))
     if contest.lines(one, rules, workers) != contest.lines(two, rules, workers):
         sys.exit("packets come to something else in two captures")
-    print_row(["captures", "packets", "of them in the second", "ns a packet without workers", f"with {workers}",
-               "with / without"])
-    print_row(["---:"] * 6)
+    print_head(["captures", "packets", "of them in the second", "ns a packet without workers", f"with {workers}",
+                "with / without"])
     for paths, second in ((one, 0), (two, early // 2)):
         without, found = best_seconds(contest.command(paths, rules), contest.command(paths, rules, workers))
         print_row([str(len(paths)), str(contest.count), str(second), f"{without * 1e9 / contest.count:.0f}",
@@ -154,7 +151,7 @@ def main():
     parser.add_argument("--workers", type=int, help="prints the table of a capture that ends early, alone")
     words = words_with_program(parser)
     with tempfile.TemporaryDirectory() as name:
-        contest = Contest(Path(name), words.program.resolve(), words.packets)
+        contest = Contest(Path(name), words.program, words.packets)
         if words.workers:
             print_early(contest, words.workers)
         else:

@@ -1,5 +1,6 @@
 #!/usr/bin/env python3
-"""Measures what `max` on rules costs: beside the same rules without it, and where a rule has no room, by the number of states.
+"""Measures what `max` on rules costs: beside the same rules without it, and if a rule has no room, by the number of
+states.
 
     limits.py [PROGRAM] [--packets N] [--states K ..]
 """
@@ -12,9 +13,9 @@ from pathlib import Path
 sys.dont_write_bytecode = True
 
 from make_capture import OPENING
-from run import best_seconds, print_row, replay_command, words_with_program
+from running import best_seconds, print_head, print_row, replay_command, words_with_program
 
-# found where make_capture says
+# found where running says
 from captures.packets import capture_header, record, udp
 
 RULES = 1000
@@ -60,7 +61,8 @@ class Making:
     def command(self, program, capture, name, options):
         rules = self.folder / name
         rules.write_text(LIMIT + "block all\n" + "".join(
-            f"pass out quick proto udp from any to any port {port} keep state{options}\n" for port in range(1, RULES + 1)))
+            f"pass out quick proto udp from any to any port {port} keep state{options}\n"
+            for port in range(1, RULES + 1)))
         return replay_command(program, capture, rules)
 
     def row(self):
@@ -68,7 +70,8 @@ class Making:
         for command in (self.with_max, self.without):
             if lines_of(self.folder, command).count(b" pass rule ") != self.count:
                 sys.exit("a packet makes no state")
-        return [f"{RULES}", f"{self.count}", f"{other * 1e6 / self.count:.3f}", f"{ours * 1e6 / self.count:.3f}", f"{ours / other:.3f}"]
+        return [f"{RULES}", f"{self.count}", *(f"{best * 1e6 / self.count:.3f}" for best in (other, ours)),
+                f"{ours / other:.3f}"]
 
 
 class Full:
@@ -80,7 +83,8 @@ class Full:
         rules.write_text(LIMIT + "block all\npass out quick proto udp from any to any port 1 keep state\n"
                          "pass out quick proto udp from any to any port 2 keep state (max 1)\n")
         self.commands = []
-        # one packet makes the rule full; then come none, those that find no room, and those of which no other rule holds
+        # one packet makes the rule full; then come none, those that find no room, and those of which no other rule
+        # holds
         for more, port in ((0, 2), (TURNED_AWAY, 2), (TURNED_AWAY, 3)):
             capture = folder / f"{more}-{port}.pcap"
             ports = [2, *[port] * more]
@@ -101,16 +105,13 @@ def main():
     parser.add_argument("--packets", type=int, default=PACKETS)
     parser.add_argument("--states", type=int, nargs="+", default=list(STATES))
     words = words_with_program(parser)
-    program = words.program.resolve()
     with tempfile.TemporaryDirectory() as folder:
-        print_row(["rules", "packets that make a state", "us each without max", "us each with max", "ratio"])
-        print_row(["---:"] * 5)
-        print_row(Making(Path(folder), program, words.packets).row())
+        print_head(["rules", "packets that make a state", "us each without max", "us each with max", "ratio"])
+        print_row(Making(Path(folder), words.program, words.packets).row())
         print()
-        print_row(["states", "ns a packet that finds no room", "ns a packet that no such rule holds for"])
-        print_row(["---:"] * 3)
+        print_head(["states", "ns a packet that finds no room", "ns a packet that no such rule holds for"])
         for states in words.states:
-            print_row(Full(Path(folder), program, states).row())
+            print_row(Full(Path(folder), words.program, states).row())
 
 
 if __name__ == "__main__":

@@ -10,12 +10,12 @@ come in from two outside networks, the others go out from 10.0.0.0/8; 10000 pack
 import random
 import struct
 import sys
-from pathlib import Path
 
-# behind the benches, of which some have the names of modules there
-sys.path.append(str(Path(__file__).resolve().parent.parent / "tests"))
 sys.dont_write_bytecode = True
 
+from running import written
+
+# found where running says
 from captures.packets import ACK, capture_header, tcp, udp
 
 OPENING = 1767261600
@@ -55,8 +55,7 @@ def write_capture(count, file):
 def main():
     if len(sys.argv) != 3:
         sys.exit(__doc__)
-    with open(sys.argv[2], "wb") as file:
-        write_capture(int(sys.argv[1]), file)
+    written(sys.argv[2], write_capture, int(sys.argv[1]))
 
 
 if __name__ == "__main__":

@@ -21,19 +21,18 @@ import struct
 import sys
 from pathlib import Path
 
-# behind the benches, of which some have the names of modules there
-sys.path.append(str(Path(__file__).resolve().parent.parent / "tests"))
 sys.dont_write_bytecode = True
 
+from make_capture import BLOCK, OPENING
+from running import written
+
+# found where running says
 from captures.packets import (ACK, ETHER_IPV4, FIN, ICMP, LINKTYPE_ETHERNET, PSH, SYN, TCP, UDP, capture_header, echo,
                               ethernet, record, tcp, udp)
 from steps.picks import IDENTIFIERS, PORTS, ZERO_SEED, cut_of, word
 
-OPENING = 1767261600
 A_SECOND = 5000
 AT_ONCE = 1000
-# packets a write of the file
-BLOCK = 20000
 # of a segment that is full
 MOST_PAYLOAD = 1400
 # out of the inside network, and into its servers
@@ -158,7 +157,8 @@ class TranslatedFlows:
     """The flows of a network whose firewall translates.
 
     The ends of a flow are words of both addresses and ports, by direction, as packets have them that come to the
-    firewall. They are drawn once its first packet comes, since the port that is picked hangs on this packet's number.
+    firewall. They are drawn once its first packet comes, since the port that is picked depends on this packet's
+    number.
     """
 
     def __init__(self, chance):
@@ -284,11 +284,10 @@ def main():
     shapes.add_argument("--stay", type=int, metavar="K")
     shapes.add_argument("--nat", action="store_true")
     words = parser.parse_args()
-    with open(words.file, "wb") as file:
-        if words.nat:
-            write_translated_flows(words.count, file)
-        else:
-            write_flows(words.count, file, words.stay)
+    if words.nat:
+        written(words.file, write_translated_flows, words.count)
+    else:
+        written(words.file, write_flows, words.count, words.stay)
 
 
 if __name__ == "__main__":

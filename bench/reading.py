@@ -3,19 +3,20 @@
 
     reading.py [PROGRAM WORDS..]
 
-Takes the program of the crate answers by its word `rulesets` unless it is given another. It prints for each kind of text,
-at lengths that double, the nanoseconds and the bytes of memory that a byte of text takes. Both should stay as they are.
+Takes the program of the crate answers by its word `rulesets` unless it is given another. It prints for each kind of
+text, at lengths that double, the nanoseconds and the bytes of memory that a byte of text takes. Both should stay as
+they are.
 """
 
 import sys
 import tempfile
-from pathlib import Path
 
 sys.dont_write_bytecode = True
-sys.path.insert(0, str(Path(__file__).resolve().parent.parent / "tests"))
 
+from running import used
+
+# found where running says
 import building
-from run import used
 
 LENGTHS = [1 << n for n in (18, 19, 20, 21, 22)]
 RULE = b"pass in quick on em0 proto { tcp, udp } from { 10.0.0.0/8, !<bad> } to any port { 80, 443 } keep state\n"
@@ -55,7 +56,8 @@ def measure(command):
             text = make(length)
             seconds, memory = min(run(command, text) for _ in range(5))
             spent = max(seconds - idle, 0)
-            print(f"{name:>12} {length >> 10:>6} {spent * 1e3:8.1f} {spent * 1e9 / length:10.1f} {memory / length:14.1f}")
+            print(f"{name:>12} {length >> 10:>6} {spent * 1e3:8.1f} {spent * 1e9 / length:10.1f} "
+                  f"{memory / length:14.1f}")
 
 
 def main():

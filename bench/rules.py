@@ -3,7 +3,9 @@
 
     rules.py [PROGRAM] [--beside OTHER] [--kinds KIND ..] [--rules N ..] [--unchecked]
 
-No rule but the last matches a packet. How many of the others a packet is asked about depends on what they pin.
+No rule but the last matches a packet. How many of the others a packet is asked about depends on what they pin. `x
+fewest` is the time of a million packets as a multiple of that of the first row of the kind. Each row is checked on 1000
+packets: the last rule decides on each, and tcpdump passes each.
 """
 
 import argparse
@@ -21,15 +23,15 @@ from pathlib import Path
 sys.dont_write_bytecode = True
 
 from make_capture import write_capture
-from run import (RUNS, check_built, count_records, peak_memory, print_row, replay_command, tcpdump_command,
-                 words_with_program)
+from running import (RUNS, check_built, count_records, peak_memory, print_head, print_row, replay_command,
+                     tcpdump_command, words_with_program, written)
 
-# found where make_capture says
+# found where running says
 from captures.packets import LINKTYPE_ETHERNET
 
 # the kinds of rulesets, and how many rules each is measured with
-KINDS = {"ports": (10, 100, 1000, 10000), "pairs": (10, 100, 1000, 10000), "ranges": (10, 100, 1000), "mixed": (10, 1000),
-         "networks": (10, 1000), "tables": (10, 10000), "lists": (65472,)}
+KINDS = {"ports": (10, 100, 1000, 10000), "pairs": (10, 100, 1000, 10000), "ranges": (10, 100, 1000),
+         "mixed": (10, 1000), "networks": (10, 1000), "tables": (10, 10000), "lists": (65472,)}
 PACKETS = 200000
 CHECKED_PACKETS = 1000
 # the bytes of both addresses and the type
@@ -83,11 +85,12 @@ def vain_pairs(count, capture):
 
 
 def vain_ranges(count, capture):
-    """Rules of a range of ports each, in order, with their terms. They pin a protocol and no port, so each packet is asked
-    about each rule of its protocol."""
+    """Rules of a range of ports each, in order, with their terms. They pin a protocol and no port, so each packet is
+    asked about each rule of its protocol."""
     for place, port in zip(range(count), free_ports(capture)):
         protocol = transport(place)
-        yield f"block quick proto {protocol} from any to any port {port}:{port}", f"{protocol} dst portrange {port}-{port}"
+        yield (f"block quick proto {protocol} from any to any port {port}:{port}",
+               f"{protocol} dst portrange {port}-{port}")
 
 
 def vain_mixed(count, capture):
@@ -147,8 +150,7 @@ class Contest:
 
     def written_capture(self, name, packets):
         path = self.folder / name
-        with open(path, "wb") as file:
-            write_capture(packets, file)
+        written(path, write_capture, packets)
         return path
 
     def replay(self, program, capture, verdicts=os.devnull):
@@ -238,12 +240,11 @@ def main():
     parser.add_argument("--rules", type=int, nargs="+", help="in place of the numbers that each kind has")
     parser.add_argument("--unchecked", action="store_true", help="the program may print what it likes")
     words = words_with_program(parser)
-    programs = [program.resolve() for program in (words.program, *words.beside)]
+    programs = [words.program, *(program.resolve() for program in words.beside)]
     for program in programs[1:]:
         check_built(program)
-    print_row(["kind", "rules", "s a million packets", "x fewest", *(f"{program.name}, s" for program in programs[1:]),
-               "tcpdump, s", "start ms", "start MB"])
-    print_row(["---"] + ["---:"] * (6 + len(programs)))
+    print_head(["kind", "rules", "s a million packets", "x fewest", *(f"{program.name}, s" for program in programs[1:]),
+                "tcpdump, s", "start ms", "start MB"], left=1)
     with tempfile.TemporaryDirectory() as folder:
         for kind in words.kinds:
             fewest = None

@@ -10,7 +10,6 @@ time counts.
 """
 
 import argparse
-import shutil
 import subprocess
 import sys
 import tempfile
@@ -20,8 +19,8 @@ sys.dont_write_bytecode = True
 
 from flows import RULES
 from make_flows import write_flows
-from run import (INTERFACE, MEGABYTE, best_seconds, count_records, peak_memory, print_row, replay_command, seconds,
-                 words_with_program)
+from running import (INTERFACE, MEGABYTE, best_seconds, count_records, need_tools, peak_memory, print_head, print_row,
+                     replay_command, seconds, tell_of_time, words_with_program, written)
 
 PACKETS = [2 * 10**5]
 TEXT, PFLOG = "text", "pflog"
@@ -35,8 +34,7 @@ class Contest:
     def __init__(self, folder, program, count):
         self.count = count
         capture, rules, lines = (folder / name for name in ("capture.pcap", "rules.conf", "verdicts"))
-        with open(capture, "wb") as file:
-            write_flows(count, file)
+        written(capture, write_flows, count)
         rules.write_text(RULES)
         seconds(replay_command(program, capture, rules, verdicts=lines))
         words = [str(program), "show", str(capture), str(lines), str(rules), *INTERFACE, "--format"]
@@ -48,8 +46,8 @@ class Contest:
         """Makes the capture with the headers of pflog. Both formats have all packets, and so has tcpdump of both
         captures."""
         self.logged.write_bytes(output_of(self.show[PFLOG]))
-        found = [count_lines(self.show[TEXT]), count_records(self.logged.read_bytes()),
-                 *(count_lines(self.tcpdump(name)) for name in (TEXT, PFLOG))]
+        found = [count_printed(self.show[TEXT]), count_records(self.logged.read_bytes()),
+                 *(count_printed(self.tcpdump(name)) for name in (TEXT, PFLOG))]
         if found != [self.count] * len(found):
             sys.exit(f"of {self.count} packets there are {found}")
 
@@ -71,7 +69,7 @@ def output_of(command):
                           check=True).stdout
 
 
-def count_lines(command):
+def count_printed(command):
     """The lines that a command prints. Further lines of tcpdump about a packet, which begin with a tab, don't count."""
     lines = output_of(command)
     return lines.count(b"\n") - lines.count(b"\n\t")
@@ -88,16 +86,13 @@ def main():
     parser = argparse.ArgumentParser(description="Measures the command show beside tcpdump.")
     parser.add_argument("--packets", type=int, nargs="+", default=PACKETS)
     words = words_with_program(parser)
-    if shutil.which("tcpdump") is None:
-        sys.exit("tcpdump isn't there: apt-get update && apt-get install -y tcpdump time")
-    if shutil.which("time") is None:
-        print("without the program 'time' (apt-get install -y time) no peak memory is shown")
-    print_row(["format", "packets", "MB", "show packets/s", "peak MB", "tcpdump packets/s",
-               f"show / tcpdump (goal {GOAL:.2f})"])
-    print_row(["---"] + ["---:"] * 6)
+    need_tools("tcpdump")
+    tell_of_time()
+    print_head(["format", "packets", "MB", "show packets/s", "peak MB", "tcpdump packets/s",
+                f"show / tcpdump (goal {GOAL:.2f})"], left=1)
     with tempfile.TemporaryDirectory() as folder:
         for count in words.packets:
-            print_rows(Path(folder), words.program.resolve(), count)
+            print_rows(Path(folder), words.program, count)
 
 
 if __name__ == "__main__":

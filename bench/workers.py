@@ -12,12 +12,12 @@ one of packets in a batch. Of each number of workers it has the speed as a multi
 the time of processors as a multiple. Behind them are the peaks of memory without workers and with the last number of
 them.
 
-With --long it prints another table instead, of what a packet costs, and of the peak of memory, as captures grow.
+With --long it prints another table instead, of what a packet costs, and of the peak of memory, as captures grow. Runs
+on up to 100000 packets are made five times, and longer ones twice. In brackets stands a cost as a multiple of that on
+the shortest capture, on which it is checked what packets come to.
 """
 
 import argparse
-import os
-import shutil
 import sys
 import tempfile
 from collections import Counter
@@ -27,12 +27,11 @@ from typing import Callable, NamedTuple, Optional
 
 sys.dont_write_bytecode = True
 
-from flows import outcomes
 from make_capture import write_capture
 from make_flows import write_flows
 from rules import vain_ranges
-from run import (OUTPUTS, RUNS, peak_memory, peak_word, print_row, replay_command, seconds, seconds_and_peak, used,
-                 words_with_program)
+from running import (OUTPUTS, RUNS, load_printed, outcomes, peak_memory, peak_word, print_head, print_row,
+                     replay_command, seconds, seconds_and_peak, tell_of_time, used, words_with_program, written)
 
 PACKETS = 200000
 COUNTS, BATCHES, WORKERS = [10, 100, 1000], [256, 4096], [1, 2, 4, 8]
@@ -57,8 +56,7 @@ class Kind(NamedTuple):
     def written(self, folder, packets):
         """A capture of `packets` packets in a folder."""
         path = folder / f"{packets} packets.pcap"
-        with open(path, "wb") as file:
-            self.write(packets, file)
+        written(path, self.write, packets)
         return path
 
 
@@ -173,8 +171,8 @@ class Growth:
 
 def print_long(folder, program, lengths):
     numbers, shortest = (0, LONG_WORKERS), lengths[0]
-    print_row(["capture", "rules", "packets", "ns a packet without", "peak MB", f"with {LONG_WORKERS}", "peak MB"])
-    print_row(["---"] + ["---:"] * 6)
+    print_head(["capture", "rules", "packets", "ns a packet without", "peak MB", f"with {LONG_WORKERS}", "peak MB"],
+               left=1)
     for name, counts in LONG_COUNTS.items():
         captures = {packets: KINDS[name].written(folder, packets) for packets in (0, *lengths)}
         for count in counts:
@@ -194,8 +192,7 @@ def print_table(folder, program, name, words):
     names = ["rules", "batch", "packets/s without", *(f"with {number}" for number in words.workers),
              "peak MB without", *(f"with {number}" for number in words.workers[-1:])]
     print(f"\n{name}, {words.packets} packets\n")
-    print_row(names)
-    print_row(["---:"] * len(names))
+    print_head(names)
     for count in words.rules:
         for batch in words.batches:
             contest = Contest(folder, program, kind, capture, words.packets, count, batch)
@@ -213,16 +210,13 @@ def main():
     parser.add_argument("--long", type=int, nargs="*", metavar="N",
                         help="prints the table of captures of N packets, alone")
     words = words_with_program(parser)
-    if shutil.which("time") is None:
-        print("without the program 'time' (apt-get install -y time) no peak memory is shown")
-    print(f"load {os.getloadavg()[0]:.1f}")
-    with tempfile.TemporaryDirectory() as folder:
+    tell_of_time()
+    with load_printed(), tempfile.TemporaryDirectory() as folder:
         if words.long is not None:
-            print_long(Path(folder), words.program.resolve(), sorted(words.long) or LENGTHS)
+            print_long(Path(folder), words.program, sorted(words.long) or LENGTHS)
         else:
             for name in words.captures:
-                print_table(Path(folder), words.program.resolve(), name, words)
-    print(f"load {os.getloadavg()[0]:.1f}")
+                print_table(Path(folder), words.program, name, words)
 
 
 if __name__ == "__main__":

@@ -7,34 +7,36 @@ Builds the program beside it in a temporary folder, which takes some minutes; cr
 in their own folders. Where PROGRAM is given it is put there, and taken from there where it is there already. It prints
 a row for each capture and size of batches. Where PFREPLAY (`crates/pfr_cli/out/pfr_cli` where none is named) is built,
 its speed with workers is measured beside that without.
+
+The program replays a capture with a gate that counts (`Gate` of pfr_work) and with outputs that go nowhere. `many
+flows` are those of flows.py with its ten rules. In `one connection` two ends send in turn, so each packet depends on
+the one before. In `making` each packet makes a state. A row is of five runs, with the least share and the greatest. The
+first share is of all packets, the second of those that were evaluated ahead. The others came while workers rested, or
+behind the first 256 packets of a batch while it wasn't known whether workers pay.
 """
 
 import argparse
-import os
-import subprocess
 import sys
 import tempfile
 from pathlib import Path
 from typing import NamedTuple
 
-HERE = Path(__file__).resolve().parent
-ROOT = HERE.parent.parent
 sys.dont_write_bytecode = True
-sys.path[:0] = [str(ROOT / "bench"), str(ROOT / "tests")]
+sys.path.insert(0, str(Path(__file__).resolve().parent.parent))
 
 from flows import RULES
 from make_flows import write_flows
-from programs import Program, program_at
-from run import PROGRAM as PFREPLAY, RUNS, print_row
+from programs import Program, add_program_flag, numbers_of, program_at
+from running import PROGRAM as PFREPLAY, RUNS, load_printed, print_head, print_row
 from workers import MAKING, Contest, Kind, cell
 
-PROGRAM = Program("again_bench", HERE / "main.rattle", "pfr_out")
+PROGRAM = Program("again", "pfr_out")
 PACKETS, BATCHES, WORKERS = 100000, [64, 256, 1024, 4096], 4
 # the rules before those of a kind, which no packet matches
 VAIN_RULES = 1000
 KINDS = {
     "many flows": Kind(RULES, write_flows),
-    # each packet hangs on the one before
+    # each packet depends on the one before
     "one connection": Kind("pass all keep state", lambda count, file: write_flows(count, file, 1)),
     "making": MAKING,
 }
@@ -62,12 +64,8 @@ class Shares(NamedTuple):
 
 def counts_of(program, contest, workers):
     """What one run counts."""
-    words = [str(program), str(contest.capture), str(contest.batch), str(workers)]
-    with open(contest.rules, "rb") as rules:
-        line = subprocess.run(words, stdin=rules, stdout=subprocess.PIPE, check=True, text=True).stdout.strip()
-    if not line.replace(" ", "").isdigit():
-        raise SystemExit(f"the run stopped: {line}")
-    counts = Counts(*map(int, line.split()))
+    command = [str(program), str(contest.capture), str(contest.batch), str(workers)]
+    counts = Counts(*numbers_of(command, contest.rules))
     # a packet that nobody answered is left to the committer
     unanswered = counts.committed - counts.answered
     if counts.committed != contest.packets or counts.ran_again != unanswered + counts.in_vain:
@@ -104,7 +102,7 @@ def main():
     parser.add_argument("--packets", type=int, default=PACKETS, help="of each capture")
     parser.add_argument("--batches", type=int, nargs="+", default=BATCHES, help="the packets of a batch")
     parser.add_argument("--workers", type=int, default=WORKERS)
-    parser.add_argument("--program", type=Path, help="where the program is, or is put once it is built")
+    add_program_flag(parser)
     parser.add_argument("pfreplay", nargs="?", type=Path, default=PFREPLAY)
     words = parser.parse_args()
     pfreplay = words.pfreplay.resolve() if words.pfreplay.is_file() else None
@@ -113,12 +111,11 @@ def main():
     with tempfile.TemporaryDirectory() as place:
         folder = Path(place)
         program = program_at(words.program, folder, PROGRAM)
-        print(f"load {os.getloadavg()[0]:.1f}")
-        print_row(["capture", "batch", "ahead, of 100", "again, of 100 of these", f"speed with {words.workers}"])
-        print_row(["---"] + ["---:"] * 4)
-        for name in words.captures:
-            print_rows(folder, program, pfreplay, name, words)
-        print(f"load {os.getloadavg()[0]:.1f}")
+        with load_printed():
+            print_head(["capture", "batch", "ahead, of 100", "again, of 100 of these", f"speed with {words.workers}"],
+                       left=1)
+            for name in words.captures:
+                print_rows(folder, program, pfreplay, name, words)
 
 
 if __name__ == "__main__":

@@ -7,9 +7,9 @@ Builds the program beside it in a temporary folder, and `main.rs` by `rustc -O`;
 first, in their own folders. For each of five messages (one of each kind of record, a mixed one, and one of 1480 bytes)
 it prints how many a second are decoded and encoded, in MB too, and that as a multiple of the Rust program's.
 
-Then it measures a standby (`standby.rattle`) on files of insertions, six in a message: the time of a message when all are only decoded,
-when a standby takes each too, and when it reads them from the file and writes the lines of its states. The last column is the peak of
-the memory by state of the last of these runs.
+Then it measures a standby (`standby.rattle`) on files of insertions, six in a message: the time of a message when all
+are only decoded, when a standby takes each too, and when it reads them from the file and writes the lines of its
+states. The last column is the peak of the memory by state of the last of these runs.
 """
 
 import os
@@ -18,19 +18,20 @@ import sys
 import tempfile
 from pathlib import Path
 
-HERE = Path(__file__).resolve().parent
-ROOT = HERE.parent.parent
 sys.dont_write_bytecode = True
-sys.path[:0] = [str(ROOT / "tests"), str(ROOT / "bench")]
+sys.path.insert(0, str(Path(__file__).resolve().parent.parent))
 
+from programs import Program, build, build_rust, rows_of
+from running import RUNS
+
+# found where running says
 from messages.message import Message
 from messages.samples import SUM, five_messages, insert
 from messages.spelling import bare
-from programs import Program, build
 
-PROGRAM = Program("messages_bench", HERE / "main.rattle", "pfr_messages")
-STANDBY = Program("standby_bench", HERE / "standby.rattle", "pfr_stream")
-ROUNDS, RUNS = 200000, 5
+PROGRAM = Program("messages", "pfr_messages")
+STANDBY = Program("messages", "pfr_stream", "standby")
+ROUNDS = 200000
 WORKS = ("decode", "encode")
 # how a standby is measured, and with how many states; six are told of in a message
 STANDBY_WORKS = ("decode", "take", "stream")
@@ -38,16 +39,9 @@ STATES = (10_002, 100_002, 1_000_002)
 IN_A_MESSAGE = 6
 
 
-def build_rust(folder):
-    program = folder / "rust"
-    subprocess.run(["rustc", "-O", "--edition", "2021", "-o", program, HERE / "main.rs"], check=True)
-    return program
-
-
 def measured(program, given):
     """The nanoseconds of a message by each work, and what else the program prints, which is to be the same in both."""
-    done = subprocess.run([program, str(ROUNDS)], input=given, stdout=subprocess.PIPE, check=True)
-    rows = [tuple(map(int, row.split())) for row in done.stdout.decode().splitlines()]
+    rows = [tuple(map(int, row.split())) for row in rows_of(program, ROUNDS, given=given)]
     return [[nanoseconds / ROUNDS for nanoseconds in row[1:3]] for row in rows], [(row[0], *row[3:]) for row in rows]
 
 
@@ -107,12 +101,13 @@ def print_standby(program, folder):
 def main():
     messages = list(map(bare, five_messages()))
     with tempfile.TemporaryDirectory() as name:
-        programs = [build(Path(name), PROGRAM), build_rust(Path(name))]
+        programs = [build(Path(name), PROGRAM), build_rust(Path(name), PROGRAM)]
         ours, rust = best(programs, b"".join(messages))
     print(f"{'bytes':>6} {'work':>7} {'a second':>12} {'MB/s':>7} {'Rust':>12} {'/ Rust':>7}")
     for message, mine, other in zip(messages, ours, rust):
         for work, one, two in zip(WORKS, mine, other):
-            print(f"{len(message):6} {work:>7} {1e9 / one:12,.0f} {len(message) * 1e3 / one:7.0f} {1e9 / two:12,.0f} {two / one:6.2f}x")
+            print(f"{len(message):6} {work:>7} {1e9 / one:12,.0f} {len(message) * 1e3 / one:7.0f} {1e9 / two:12,.0f} "
+                  f"{two / one:6.2f}x")
     with tempfile.TemporaryDirectory() as name:
         print_standby(build(Path(name), STANDBY), Path(name))
 

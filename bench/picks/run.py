@@ -10,28 +10,26 @@ PFREPLAY (`crates/pfr_cli/out/pfr_cli` where none is named) replays more such fl
 """
 
 import argparse
-import subprocess
 import sys
 import tempfile
 from collections import Counter
 from pathlib import Path
 from typing import NamedTuple
 
-HERE = Path(__file__).resolve().parent
-ROOT = HERE.parent.parent
 sys.dont_write_bytecode = True
-sys.path[:0] = [str(ROOT / "bench"), str(ROOT / "tests")]
+sys.path.insert(0, str(Path(__file__).resolve().parent.parent))
 
+from make_flows import A_SECOND, OPENING
+from programs import Program, Timed, add_program_flag, more_allocations, numbers_of, program_at, run_in_turn
+from running import (OUTPUTS, PROGRAM as PFREPLAY, RUNS, best_seconds, check_built, count_lines, goal_line, outcomes,
+                     print_head, print_row, replay_command)
+
+# found where running says
 from captures.packets import capture_header, record, udp
-from faults.trial import Target, Trial
-from flows import count_lines, outcomes
-from programs import Program, program_at
-from run import OUTPUTS, PROGRAM as PFREPLAY, best_seconds, print_row, replay_command
 from steps.picks import IDENTIFIERS, PORTS, ZERO_SEED, try_list, word
 
-PROGRAM = Program("picks_bench", HERE / "main.rattle", "pfr_packet")
+PROGRAM = Program("picks", "pfr_packet")
 SHARES = (50, 90, 99)
-RUNS = 5
 # the steps of a run, and the ports that are tried in it
 MOST_STEPS = 10**6
 MOST_TRIES = 2 * 10**7
@@ -39,14 +37,13 @@ MOST_TRIES = 2 * 10**7
 # twice as many of these
 CHECKED_STEPS = 300
 COUNTED_STEPS = 100
-ALLOCATIONS = Target("allocation", "", ())
 # what a step asks besides the ports that it tries: about the packet's own key; and where it makes a state about both of
 # that state's keys, and whether there is room
 ASKED, ASKED_FOR_STATE = 1, 3
 # nanoseconds a question, which are looked at where there are so many questions
 GOAL, MANY = 100, 10
-# flows through the whole program, and how many of them are in a second
-FLOWS, A_SECOND, OPENING = 20000, 5000, 1767261600
+# flows through the whole program
+FLOWS = 20000
 
 
 class Ruleset(NamedTuple):
@@ -109,7 +106,7 @@ class Range:
         yield Fill("all", self.size, 0)
 
 
-class Contest:
+class Contest(Timed):
     """Packets that begin flows under a ruleset, over a table that is filled."""
 
     def __init__(self, program, folder, ruleset, ports, fill):
@@ -123,7 +120,6 @@ class Contest:
             raise SystemExit(f"{self.name()}: {tries} tries for {CHECKED_STEPS} packets, and not {expected}")
         self.steps = max(CHECKED_STEPS, min(MOST_STEPS, MOST_TRIES * CHECKED_STEPS // max(tries, 1)))
         self.tries = self.tries_of(self.steps) / self.steps
-        self.best = None
 
     def name(self):
         return f"{self.ports.name}, {self.ruleset.name}, {self.fill.name}"
@@ -134,12 +130,7 @@ class Contest:
 
     def measured(self, steps, is_counted):
         """What the program measures of so many steps."""
-        with open(self.rules, "rb") as rules:
-            line = subprocess.run(self.command(steps, is_counted), stdin=rules, stdout=subprocess.PIPE, check=True,
-                                  text=True).stdout
-        if line.startswith("line"):
-            raise SystemExit(f"the ruleset is refused: {line}")
-        measure, *found = map(int, line.split())
+        measure, *found = numbers_of(self.command(steps, is_counted), self.rules)
         if found != [0 if self.is_full else steps, steps if self.is_full else 0, self.fill.made - self.fill.gone]:
             raise SystemExit(f"{self.name()}: of {steps} packets came {found}")
         return measure
@@ -150,8 +141,7 @@ class Contest:
 
     def run(self):
         """Runs the program once more, and keeps the best nanoseconds of a step."""
-        step = self.measured(self.steps, False) / self.steps
-        self.best = step if self.best is None else min(step, self.best)
+        self.keep(self.measured(self.steps, False) / self.steps)
 
     def nanoseconds_a_try(self, least):
         """By what a step takes longer than one of another contest; None where it hardly tries more."""
@@ -160,13 +150,8 @@ class Contest:
 
     def allocations(self, folder):
         """The allocations of a step: what a run of twice as many has more."""
-        calls = []
-        for steps in (COUNTED_STEPS, 2 * COUNTED_STEPS):
-            seen, counts = Trial(self.command(steps, False), self.rules, folder).counted(ALLOCATIONS)
-            if seen.status != 0:
-                raise SystemExit(f"{self.name()}: ended with {seen.status} where allocations are counted")
-            calls.append(counts.calls)
-        return (calls[1] - calls[0]) / COUNTED_STEPS
+        more = more_allocations(lambda steps: self.command(steps, False), COUNTED_STEPS, self.rules, folder)
+        return more / COUNTED_STEPS
 
 
 def contests_of(program, folder, ports):
@@ -179,9 +164,7 @@ def contests_of(program, folder, ports):
 def measure(program, folder, ports):
     """Prints the rows of a range, and answers the nanoseconds of a question where there are many."""
     contests = list(contests_of(program, folder, ports))
-    for _ in range(RUNS):
-        for contest in contests:
-            contest.run()
+    run_in_turn(RUNS, contests)
     least = next(contest for contest in contests if contest.ruleset is PICKING)
     each = []
     for contest in contests:
@@ -221,18 +204,17 @@ def measure_whole(pfreplay, folder, ports):
 def main():
     parser = argparse.ArgumentParser(description="Measures picks of ports and identifiers as more of them are taken.")
     parser.add_argument("pfreplay", nargs="?", type=Path, default=PFREPLAY)
-    parser.add_argument("--program", type=Path, help="where the program is, or is put once it is built")
+    add_program_flag(parser)
     words = parser.parse_args()
-    if not words.pfreplay.is_file():
-        sys.exit(f"{words.pfreplay} isn't there: build the program first")
+    check_built(words.pfreplay)
     with tempfile.TemporaryDirectory() as name:
         folder = Path(name)
         program = program_at(words.program, folder, PROGRAM)
-        print_row(["of", "rules", "taken", "questions a pick", "ns a step", "ns a question", "allocations a step"])
-        print_row(["---"] * 3 + ["---:"] * 4)
+        print_head(["of", "rules", "taken", "questions a pick", "ns a step", "ns a question", "allocations a step"],
+                   left=3)
         ranges = Range("UDP ports", *PORTS, False), Range("ICMP identifiers", *IDENTIFIERS, True)
         most = max(nanoseconds for ports in ranges for nanoseconds in measure(program, folder, ports))
-        print(f"at most {most:.1f} ns a question, the goal of {GOAL} is {'met' if most <= GOAL else 'missed'}")
+        print(f"at most {most:.1f} ns a question, {goal_line(GOAL, most <= GOAL)}")
         measure_whole(words.pfreplay.resolve(), folder, ranges[0])
 
 

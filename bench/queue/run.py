@@ -9,32 +9,27 @@ second of its own, so that each 16 events close a message; and states that come 
 message.
 """
 
-import subprocess
 import sys
-import tempfile
 from pathlib import Path
 
-HERE = Path(__file__).resolve().parent
-ROOT = HERE.parent.parent
 sys.dont_write_bytecode = True
-sys.path[:0] = [str(ROOT / "tests"), str(ROOT / "bench")]
+sys.path.insert(0, str(Path(__file__).resolve().parent.parent))
 
-from programs import Program, build
+from programs import Program, built, rows_of
+from running import RUNS
 
-PROGRAM = Program("queue_bench", HERE / "main.rattle", "pfr_sync")
-EVENTS, RUNS = 10**6, 5
+PROGRAM = Program("queue", "pfr_sync")
+EVENTS = 10**6
 WAYS = ("touched, one second", "touched, many seconds", "made, one second")
 
 
 def measured(program):
     """The nanoseconds and the messages of each way."""
-    done = subprocess.run([program, str(EVENTS)], stdout=subprocess.PIPE, check=True)
-    return [tuple(map(int, row.split())) for row in done.stdout.decode().splitlines()]
+    return [tuple(map(int, row.split())) for row in rows_of(program, EVENTS)]
 
 
 def main():
-    with tempfile.TemporaryDirectory() as name:
-        program = build(Path(name), PROGRAM)
+    with built(PROGRAM) as program:
         runs = [measured(program) for _ in range(RUNS)]
     print(f"{'events':<22} {'a second':>12} {'messages':>9}")
     for way, rows in zip(WAYS, zip(*runs)):

@@ -3,31 +3,27 @@
 
     run.py
 
-Builds the program beside it in a temporary folder; crates that aren't built are built first, in their own folders. Prints
-for a TCP state (data and acknowledgements in turn) and a UDP state the nanoseconds of a copy and of a touch, the
-touch as a multiple of the copy, and touches in a second. A touch counts the packet's making and the storing of the state.
+Builds the program beside it in a temporary folder; crates that aren't built are built first, in their own folders.
+Prints for a TCP state (data and acknowledgements in turn) and a UDP state the nanoseconds of a copy and of a touch, the
+touch as a multiple of the copy, and touches in a second. A touch counts the packet's making and the storing of the
+state.
 """
 
-import subprocess
 import sys
-import tempfile
 from pathlib import Path
 
-HERE = Path(__file__).resolve().parent
-ROOT = HERE.parent.parent
 sys.dont_write_bytecode = True
-sys.path[:0] = [str(ROOT / "bench"), str(ROOT / "tests")]
+sys.path.insert(0, str(Path(__file__).resolve().parent.parent))
 
-from programs import Program, build
+from programs import Program, built, rows_of
 
-PROGRAM = Program("track_bench", HERE / "main.rattle", "pfr_track")
+PROGRAM = Program("track", "pfr_track")
 ROUNDS = 20000000
 
 
 def main():
-    with tempfile.TemporaryDirectory() as name:
-        program = build(Path(name), PROGRAM)
-        rows = subprocess.run([program], stdout=subprocess.PIPE, check=True, text=True).stdout.splitlines()
+    with built(PROGRAM) as program:
+        rows = rows_of(program)
     print(f"{'state':>6} {'copy ns':>8} {'touch ns':>9} {'x copy':>7} {'touches a second':>17}")
     for row in rows:
         kind, copied, touched, accepted, _ = row.split()
