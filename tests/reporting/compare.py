@@ -33,7 +33,7 @@ from standby.many import in_processes, part
 
 # where no other number is told, and that of the models alone
 DRAWN, MODEL_DRAWN = 1000, 300
-# one page of so many is also read by tidy
+# tidy also reads one page in this many
 TIDY_STEP = 25
 
 

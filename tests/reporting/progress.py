@@ -158,6 +158,12 @@ def most_of(seconds):
     return TWICE * seconds + 2
 
 
+def least_of(command):
+    """How many lines there are at least in some two seconds. A line comes when a packet is taken, so there may be one
+    alone if a command waits for who reads its output."""
+    return 1 if command.reading else 2
+
+
 def is_share_right(command, line, done):
     """Whether the share is there if it can be, and near to what was done, in per cent."""
     if not command.has_share:
@@ -166,15 +172,14 @@ def is_share_right(command, line, done):
 
 
 def expect_slowly(comparison, command, plain):
-    """On a terminal a line is written over the one before, and a newline stands at the end. Packets are taken in bursts
-    if a command waits for who reads its output, so of some seconds one line may be all."""
+    """On a terminal a line is written over the one before, and a newline stands at the end."""
     seen = watched([comparison.program, *command.words, PROGRESS], comparison.folder, command.pieces,
                    reading=command.reading)
     lines, rest = terminal_lines(seen.err)
     comparison.expect(f"{command.name}, slowly", (plain.status, plain.out, plain.err), (seen.status, seen.out, rest))
     shown = [line for line in lines if line.packets > 1]
     comparison.expect(f"{command.name}, lines of {len(lines)} in {seen.seconds:.1f} s", True,
-                      1 <= len(lines) <= most_of(seen.seconds) and are_in_order(lines))
+                      least_of(command) <= len(lines) <= most_of(seen.seconds) and are_in_order(lines))
     comparison.expect(f"{command.name}, whether there is a share, {lines[-1:]}", True,
                       bool(shown) and all((line.share is not None) == command.has_share for line in lines))
     comparison.expect(f"{command.name}, states made, {lines[-1:]}", True,
