@@ -7,8 +7,8 @@ ROOT = Path(__file__).resolve().parent.parent
 CRATES = ROOT / "crates"
 # what a crate is made of
 PARTS = ("src", "specs", "proofs")
-# with nothing on standard input `answers` answers nothing by this word
-IDLE_WORD = "rulesets"
+# with nothing on standard input these programs answer nothing by these words
+IDLE_WORDS = {"answers": "rulesets", "run_answers": "devices"}
 
 
 def named_crates():
@@ -41,37 +41,22 @@ def ran(words, folder):
         raise SystemExit(done.stdout)
 
 
-def built(name, *words):
-    """The program of a crate, built if it isn't there or a source is newer. With these words it answers nothing."""
+def built(name):
+    """The program of a crate, built if it isn't there or a source is newer."""
     program = CRATES / name / "out" / name
     if is_stale(program):
-        ran(["rt", "run", "--", *words], CRATES / name)
+        ran(["rt", "run", "--", IDLE_WORDS[name]], CRATES / name)
     return program
 
 
 def answers(word):
     """The command by which `answers` answers one of its words."""
-    return [str(built("answers", IDLE_WORD)), word]
+    return [str(built("answers")), word]
 
 
-def message_answers(word):
-    """The command by which `message_answers` answers one of its words."""
-    return [str(built("message_answers", word)), word]
-
-
-def schedule_answers():
-    """The command by which `schedule_answers` answers scripts; without any it answers nothing."""
-    return [str(built("schedule_answers"))]
-
-
-def published_answers():
-    """The command by which `published_answers` answers scripts; without any it answers nothing."""
-    return [str(built("published_answers"))]
-
-
-def run_answers():
-    """The program that replays scripts over devices in memory; without any it answers nothing."""
-    return str(built("run_answers"))
+def run_answers(word):
+    """The command by which `run_answers` answers scripts of one of its words."""
+    return [str(built("run_answers")), word]
 
 
 def pfreplay():

@@ -30,14 +30,10 @@ WORDS = ("runs", "rulesets", "expansions", "tracking", "table", "steps", "commit
          "adapt", "faults", "hostile", "gateway", "manners", "documents")
 # those without answers written by hand
 WITHOUT_MODEL_ALONE = ("workers", "hostile", "gateway", "manners", "documents")
-# those of the program pfreplay, of message_answers, of schedule_answers, of published_answers, of run_answers and of no
-# program; all others are of the program `answers`
+# those of the program pfreplay, of run_answers and of no program; all others are of the program `answers`
 OF_PFREPLAY = ("runs", "workers", "matrix", "standby", "listing", "telling", "changes", "showing", "reporting", "adapt",
                "faults", "hostile", "gateway", "manners")
-OF_MESSAGES = ("messages",)
-OF_SCHEDULES = ("schedules", "devices")
-OF_PUBLISHED = ("published",)
-OF_RUNS = ("devices",)
+OF_RUNS = ("schedules", "published", "devices")
 OF_NO_PROGRAM = ("documents",)
 
 
@@ -60,16 +56,10 @@ def build(words):
     """Builds what these comparisons need, so that none of them has to while the others run."""
     if set(words) & set(OF_PFREPLAY):
         building.pfreplay()
-    if set(words) & set(OF_MESSAGES):
-        building.message_answers("texts")
-    if set(words) & set(OF_SCHEDULES):
-        building.schedule_answers()
-    if set(words) & set(OF_PUBLISHED):
-        building.published_answers()
     if set(words) & set(OF_RUNS):
-        building.run_answers()
-    if set(words) - {*OF_PFREPLAY, *OF_MESSAGES, *OF_SCHEDULES, *OF_PUBLISHED, *OF_RUNS, *OF_NO_PROGRAM}:
-        building.built("answers", building.IDLE_WORD)
+        building.built("run_answers")
+    if set(words) - {*OF_PFREPLAY, *OF_RUNS, *OF_NO_PROGRAM}:
+        building.built("answers")
 
 
 def compare(words, function):

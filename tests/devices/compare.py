@@ -95,7 +95,7 @@ def compare_scenes(command):
     return wrong + missing(counts, ENDINGS)
 
 
-def refused_in_turn(program, judge, scripts):
+def refused_in_turn(command, judge, scripts):
     """How many runs end otherwise than a judge allows, with each allocation refused in turn to some scripts, which have
     titles; and how many endings that are promised came up in none."""
     wrong, counts = 0, Counter()
@@ -103,7 +103,7 @@ def refused_in_turn(program, judge, scripts):
         source = Path(folder) / "script"
         for title, script in scripts:
             source.write_bytes(script)
-            calls, endings, unlawful = run_with_faults([str(program)], source, judge)
+            calls, endings, unlawful = run_with_faults(command, source, judge)
             counts += endings
             wrong += len(unlawful)
             print(f"{title}: {sum(calls.values())} allocations, {told(endings, (*judge.ENDINGS, NOT_REACHED))}",
@@ -111,19 +111,19 @@ def refused_in_turn(program, judge, scripts):
     return wrong + missing(counts, judge.PROMISED)
 
 
-def compare_refusals(program):
+def compare_refusals(command):
     scripts = ((f"{scene.name}, batches of {scene.batch}, {scene.workers} workers", scene.script())
                for scene in cases.refused_scenes())
-    return refused_in_turn(program, refusals, scripts)
+    return refused_in_turn(command, refusals, scripts)
 
 
-def compare_speculations(program):
+def compare_speculations(command):
     scripts = ((f"{script.known.run.name}, evaluated ahead", script_bytes(script)) for script in speculations.scripts())
-    return refused_in_turn(program, speculations, scripts)
+    return refused_in_turn(command, speculations, scripts)
 
 
-def compare(program, schedules):
-    return (compare_rows([program]) + compare_scenes([program]) + compare_refusals(program)
+def compare(devices, schedules):
+    return (compare_rows(devices) + compare_scenes(devices) + compare_refusals(devices)
             + compare_speculations(schedules))
 
 
@@ -140,4 +140,4 @@ def model_alone():
 
 
 def main():
-    sys.exit(bool(compare(building.run_answers(), *building.schedule_answers())))
+    sys.exit(bool(compare(building.run_answers("devices"), building.run_answers("schedules"))))

@@ -1,4 +1,4 @@
-"""A run over devices in memory, as `run_answers` is told it, and what it answers."""
+"""A run over devices in memory, as `run_answers devices` is told it, and what it answers."""
 
 from typing import NamedTuple
 

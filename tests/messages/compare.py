@@ -113,7 +113,7 @@ def compare_lists(title, lists):
     """How many lists of events give other messages."""
     lists = list(lists)
     expected = [[message.text() for message in model.whole(origin, packets)] for origin, packets in lists]
-    seen = answers_of(building.message_answers("events"), [list_bytes(origin, packets) for origin, packets in lists])
+    seen = answers_of(building.answers("events"), [list_bytes(origin, packets) for origin, packets in lists])
     count = differing(((*each, messages, lines) for each, messages, lines in zip(lists, expected, seen)), show_messages)
     events = sum(len(model.events_of(packets)) for _, packets in lists)
     print(f"{len(lists)} {title} with {events} events: {sum(map(len, expected))} messages, {count} differ")
@@ -194,6 +194,6 @@ def model_alone():
 
 
 def main():
-    command = building.message_answers("texts")
+    command = building.answers("texts")
     count = compare_lists("random lists", random_lists()) + compare_lists("random runs", run_lists())
     sys.exit(bool(count + compare_written(command) + compare_texts(command)))

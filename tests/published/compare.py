@@ -129,7 +129,7 @@ def are_refused_lawfully(command):
 
 
 def main():
-    command = building.published_answers()
+    command = building.run_answers("published")
     wrong = compare_model() + compare(command, "written out", written_scripts())
     for kind, count in COUNTS.items():
         wrong += compare(command, kind, cases.scripts(kind, count))

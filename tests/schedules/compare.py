@@ -187,7 +187,7 @@ def comparisons_with_each_row():
 
 def is_one_wrong(compared):
     """Whether one of these differs; those behind it aren't run."""
-    command = building.schedule_answers()
+    command = building.run_answers("schedules")
     return any(compare(command, title, scripts) for title, scripts in compared)
 
 

@@ -30,16 +30,16 @@
 mod packets;
 
 use crate::commits::packets::Packets;
-use crate::given::{Given, Words};
-use crate::printing::{put_bytes, put_fault};
 use pfr_capture::Record;
-use pfr_commit::{Book, Emitted, Ending, PacketTexts};
+use pfr_commit::{Book, Emitted, Ending};
 use pfr_net::{IfName, Ipv4Address, Net};
 use pfr_packet::Job;
 use pfr_record::{Speculation, speculate};
 use pfr_ruleset::Interface;
-use pfr_sync::{Message, encode_onto};
 use pfr_track::{Clock, InterfacePlace};
+use scripts::{
+    Given, Script, Words, follow, put_bytes, put_ending, put_fault, put_messages, put_packets,
+};
 use std::alloc::{AllocError, Global};
 use std::io;
 use std::io::Write;
@@ -62,32 +62,19 @@ struct Run {
     emitted: Emitted,
 }
 
-/// The bytes that are the next word.
-fn bytes(alloc: Global, words: &mut Words<'_>) -> Result<Vec<u8>, AllocError> {
-    let word = words.word();
-    let digits = if word == "-" { "" } else { word };
-    match hex::decode(alloc, digits) {
-        Ok(bytes) => Ok(bytes),
-        Err(_) => Err(AllocError),
-    }
-}
-
 /// The packet that a line names.
 fn record(alloc: Global, words: &mut Words<'_>) -> Result<Record, AllocError> {
     let place = words.number().unwrap_or(0);
     let link = words.number().unwrap_or(0);
     let seconds = words.number().unwrap_or(0);
-    let header = bytes(alloc, words)?;
-    let bytes = bytes(alloc, words)?;
+    let header = words.bytes(alloc)?;
+    let bytes = words.bytes(alloc)?;
     Ok(Record {
         place,
         link,
         seconds,
         fraction: 0,
-        header: Given {
-            rest: header.as_slice(),
-        }
-        .array(),
+        header: Given::of(header.as_slice()).array(),
         bytes,
     })
 }
@@ -157,76 +144,12 @@ impl Lengths {
             messages: emitted.messages.len(),
         })
     }
-
-    /// The bytes of packets at a place.
-    fn packets_at(&self, place: usize) -> usize {
-        self.packets.get(place).copied().unwrap_or(0)
-    }
 }
 
 /// What stands in a list from a place on.
 fn behind<T>(items: &[T], start: usize) -> &[T] {
     let (_, rest) = items.split_at(start.min(items.len()));
     rest
-}
-
-/// A line of a word and bytes.
-fn put_line(alloc: Global, out: &mut String, word: &str, bytes: &[u8]) -> Result<(), AllocError> {
-    if bytes.is_empty() {
-        return writeln!(out, "{word} -");
-    }
-    let digits = hex::encode(alloc, bytes)?;
-    writeln!(out, "{word} {digits}")
-}
-
-/// A line of a word and messages, one behind the other.
-fn put_messages(
-    alloc: Global,
-    out: &mut String,
-    word: &str,
-    messages: &[Message],
-) -> Result<(), AllocError> {
-    let mut bytes = Vec::new(alloc);
-    for message in messages {
-        encode_onto(message, &mut bytes)?;
-    }
-    put_line(alloc, out, word, bytes.as_slice())
-}
-
-/// Puts the line of the packets at a place, if there are some, and answers whether there are.
-fn put_place(
-    alloc: Global,
-    out: &mut String,
-    place: usize,
-    packets: &[u8],
-) -> Result<bool, AllocError> {
-    if packets.is_empty() {
-        return Ok(false);
-    }
-    let digits = hex::encode(alloc, packets)?;
-    writeln!(out, "packets {place} {digits}")?;
-    Ok(true)
-}
-
-/// Puts the lines of the packets behind these lengths.
-fn put_packets(
-    alloc: Global,
-    out: &mut String,
-    packets: &PacketTexts,
-    lengths: &Lengths,
-) -> Result<(), AllocError> {
-    let mut is_any = false;
-    for (place, text) in packets.as_slice().iter().enumerate() {
-        let added = behind(text.as_slice(), lengths.packets_at(place));
-        if put_place(alloc, out, place, added)? {
-            is_any = true;
-        }
-    }
-    if is_any {
-        Ok(())
-    } else {
-        out.push_str("packets -\n")
-    }
 }
 
 /// Prints what was emitted behind these lengths, and how far a book has come.
@@ -238,7 +161,7 @@ fn put_emitted(
     book: &Book,
 ) -> Result<(), AllocError> {
     put_bytes(out, behind(emitted.verdicts.as_slice(), lengths.verdicts))?;
-    put_packets(alloc, out, &emitted.packets, lengths)?;
+    put_packets(alloc, out, &emitted.packets, lengths.packets.as_slice())?;
     let messages = behind(emitted.messages.as_slice(), lengths.messages);
     put_messages(alloc, out, "messages", messages)?;
     writeln!(out, "own {}, committed {}", book.own(), book.committed())
@@ -261,18 +184,14 @@ fn put_committed(
     }
 }
 
-/// Prints what a book says at the end of its run.
-fn put_ending(
+/// Prints what a book leaves, unless memory was refused.
+fn put_end(
     alloc: Global,
     out: &mut String,
     ending: &Result<Ending, AllocError>,
 ) -> Result<(), AllocError> {
     match ending {
-        Ok(ending) => {
-            put_messages(alloc, out, "message", ending.message.as_slice())?;
-            put_bytes(out, ending.counters.as_slice())?;
-            put_bytes(out, ending.states.as_slice())
-        }
+        Ok(ending) => put_ending(alloc, out, ending),
         Err(_) => out.push_str("refused\n"),
     }
 }
@@ -294,7 +213,7 @@ impl Run {
     /// The job of a line, if its ruleset isn't refused.
     fn job(&self, out: &mut String, words: &mut Words<'_>) -> Result<Option<Arc<Job>>, AllocError> {
         let seed = [words.number().unwrap_or(0); 32];
-        let text = bytes(self.alloc, words)?;
+        let text = words.bytes(self.alloc)?;
         let interfaces = self.interfaces.as_slice();
         let inside = self.inside.as_slice();
         match Job::new(self.alloc, text.as_slice(), interfaces, inside, seed) {
@@ -427,12 +346,13 @@ impl Run {
     fn finish(&mut self, out: &mut String) -> Result<(), AllocError> {
         if let Some(book) = self.book.take() {
             let ending = book.finish();
-            put_ending(self.alloc, out, &ending)?;
+            put_end(self.alloc, out, &ending)?;
         }
         out.push_str("end\n")
     }
+}
 
-    /// Does what a line of this word says.
+impl Script for Run {
     fn obey(
         &mut self,
         out: &mut String,
@@ -456,25 +376,12 @@ impl Run {
             _ => out.push_str("no call\n"),
         }
     }
-
-    /// Does what the lines say up to the end of the run, and answers whether it came.
-    fn follow(&mut self, out: &mut String, lines: &mut Lines<'_>) -> Result<bool, AllocError> {
-        for line in lines {
-            let mut words = Words::of(line);
-            let word = words.word();
-            self.obey(out, word, &mut words)?;
-            if word == "end" {
-                return Ok(true);
-            }
-        }
-        Ok(false)
-    }
 }
 
 /// Puts the answer to the next run, and answers whether a whole one was left.
 fn put_next(alloc: Global, out: &mut String, lines: &mut Lines<'_>) -> Result<bool, AllocError> {
     let mut run = Run::new(alloc);
-    let followed = run.follow(out, lines);
+    let followed = follow(&mut run, out, lines);
     drop(run);
     followed
 }

@@ -8,7 +8,6 @@
 //! holds a byte that is 0 where it comes in and else 1, the clock (4), its total length (2), its kind (1), and of TCP's
 //! header the sequence number (4), the acknowledged one (4), the flags (1), the window (2), the shift (1, 255 for none)
 //! and the length of the payload (2).
-use crate::given::Given;
 use crate::printing::put_state;
 use bitflags::Flags;
 use pfr_headers::{
@@ -19,6 +18,7 @@ use pfr_track::{
     Binding, Clock, InterfacePlace, Key, RuleNumber, State, StateNumber, StateRules, Timeouts,
     Touch, make, touch,
 };
+use scripts::Given;
 use std::alloc::{AllocError, Global};
 
 /// What all packets of a conversation share.

@@ -12,11 +12,11 @@ use crate::expansions::options::put_options;
 use crate::expansions::rules::put_rules;
 use crate::expansions::terms::{put_network, put_table_name, table_names};
 use crate::expansions::translations::put_translations;
-use crate::given::Given;
-use crate::printing::{put_fault, word_if};
+use crate::printing::word_if;
 use pfr_conf::{ConfError, Statements, read};
 use pfr_expand::expand;
 use pfr_ruleset::{AddressTable, Interface, Ruleset};
+use scripts::{Given, put_fault};
 use std::alloc::{AllocError, Global};
 
 fn put_table(

@@ -7,6 +7,8 @@
 //!     answers table            calls to a table of states
 //!     answers steps            what packets come to over a table of states, one by one
 //!     answers commits          what a book says that commits them, in batches or one by one
+//!     answers events           the messages that a standby is told of events
+//!     answers texts            what messages texts begin with
 //!
 //! The module of a word says what it reads and prints. An answer is written when it is whole.
 #![tactic(auto)]
@@ -14,13 +16,14 @@
 mod commits;
 mod conversations;
 mod expansions;
-mod given;
+mod messages;
 mod printing;
 mod rulesets;
 mod steps;
 mod table;
 
-use crate::given::Given;
+use crate::messages::{events, texts};
+use scripts::Given;
 use std::alloc::{AllocError, Global};
 use std::io::{Read, Write};
 use std::{env, io};
@@ -32,6 +35,8 @@ enum Asked {
     Expansions,
     Conversations,
     Steps,
+    Events,
+    Texts,
 }
 
 /// Puts the answer to the next record.
@@ -46,6 +51,8 @@ fn put_answer(
         Asked::Expansions => expansions::put_answer(alloc, out, given),
         Asked::Conversations => conversations::put_answer(alloc, out, given),
         Asked::Steps => steps::put_answer(alloc, out, given),
+        Asked::Events => events::put_answer(alloc, out, given),
+        Asked::Texts => texts::put_answer(alloc, out, given),
     }
 }
 
@@ -56,10 +63,10 @@ fn answer_records<W: Write>(
     given: &[u8],
     out: &mut W,
 ) -> io::Result<()> {
-    let mut given = Given { rest: given };
+    let mut given = Given::of(given);
     let mut answer = String::new(alloc);
     for _turn in 0..u64::MAX {
-        if given.rest.is_empty() {
+        if given.is_empty() {
             break;
         }
         put_answer(alloc, asked, &mut answer, &mut given)?;
@@ -84,6 +91,8 @@ fn answer<W: Write>(alloc: Global, word: &str, given: &[u8], out: &mut W) -> io:
         "expansions" => answer_records(alloc, Asked::Expansions, given, out),
         "conversations" => answer_records(alloc, Asked::Conversations, given, out),
         "steps" => answer_records(alloc, Asked::Steps, given, out),
+        "events" => answer_records(alloc, Asked::Events, given, out),
+        "texts" => answer_records(alloc, Asked::Texts, given, out),
         "table" => table::answer(alloc, text(given)?, out),
         "commits" => commits::answer(alloc, text(given)?, out),
         _ => Err(io::Error::other("no word, or one that asks for nothing")),

@@ -1,8 +1,7 @@
 //! `answers rulesets`: each record is a ruleset's text with its length before it in four bytes. The answer is a line: the
 //! number of its statements, those of bodies too, or its first fault.
-use crate::given::Given;
-use crate::printing::put_fault;
 use pfr_conf::{ConfError, FilterStatement, Statement, Statements, read};
+use scripts::{Given, put_fault};
 use std::alloc::{AllocError, Global};
 
 /// How many statements these are, with those of their bodies.

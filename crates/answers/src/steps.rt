@@ -14,8 +14,7 @@
 //! and the six bytes of this address; the text of the ruleset with its length before it in four bytes; a byte, which is each of
 //! the seed's; how many records there are (4), and these. A record holds the place of its interface (1), the link type (2), the
 //! seconds (4), and the captured bytes with their length before them (4).
-use crate::given::Given;
-use crate::printing::{put_address, put_bytes, put_fault, put_state};
+use crate::printing::{put_address, put_state};
 use pfr_commit::VerdictLine;
 use pfr_conf::ConfError;
 use pfr_headers::{Change, End, EthernetAddress, Tap, view};
@@ -24,6 +23,7 @@ use pfr_packet::{Direct, Job, Outcome, step};
 use pfr_rules::Visits;
 use pfr_states::{Table, TableChange, TableError};
 use pfr_track::{Binding, Clock, InterfacePlace, State, StateNumber};
+use scripts::{Given, put_bytes, put_fault};
 use std::alloc::{AllocError, Global};
 
 /// A record of a capture.

@@ -22,14 +22,11 @@
 //!
 //! All lines are read before the first call, and the answers go into a text that is made before it. So from there on only the
 //! table takes memory, as long as no answer is longer than that text has room.
-use crate::given::Words;
 use crate::printing::word_if;
-use pfr_net::{Direction, Endpoint, Ipv4Address, Port, Protocol};
+use pfr_net::Endpoint;
 use pfr_states::{Side, Table, TableChange};
-use pfr_track::{
-    Binding, Clock, Deadline, InterfacePlace, Key, Peers, RuleNumber, State, StateNumber,
-    StateRules, Timeout, Traffic,
-};
+use pfr_track::{Binding, Clock, Key, State, StateNumber};
+use scripts::{Words, binding, key, rule, state};
 use std::alloc::{AllocError, Global};
 use std::io;
 use std::io::Write;
@@ -37,77 +34,6 @@ use std::str::Lines;
 
 /// How many bytes the text of the answers has room for.
 const ROOM: usize = 65536;
-
-fn endpoint(words: &mut Words<'_>) -> Option<Endpoint> {
-    let address = Ipv4Address(words.number()?);
-    let port = Port(words.number()?);
-    Some(Endpoint { address, port })
-}
-
-fn key(words: &mut Words<'_>) -> Option<Key> {
-    let protocol = Protocol(words.number()?);
-    let outside = endpoint(words)?;
-    let inside = endpoint(words)?;
-    Some(Key {
-        protocol,
-        outside,
-        inside,
-    })
-}
-
-/// The rule that is the next word; a word that is no number stands for none.
-fn rule(words: &mut Words<'_>) -> Option<RuleNumber> {
-    Some(RuleNumber(words.number()?))
-}
-
-/// The binding that is the next word: to the interface of a number, or to all for another word.
-fn binding(words: &mut Words<'_>) -> Binding {
-    match words.number() {
-        Some(place) => Binding::To(InterfacePlace(place)),
-        None => Binding::All,
-    }
-}
-
-/// The interface on which a state was made, if it is bound to one, and else the first.
-fn maker(binding: Binding) -> InterfacePlace {
-    match binding {
-        Binding::To(place) => place,
-        Binding::All => InterfacePlace(0),
-    }
-}
-
-fn state(words: &mut Words<'_>) -> Option<State> {
-    let number = StateNumber(words.number()?);
-    let wire = key(words)?;
-    let stack = key(words)?;
-    let deadline = Deadline(words.number()?);
-    let bytes = words.number()?;
-    let filter = rule(words);
-    let binding = binding(words);
-    Some(State {
-        number,
-        direction: Direction::In,
-        interface: maker(binding),
-        wire,
-        stack,
-        rules: StateRules {
-            filter,
-            translation: None,
-            is_synchronised: true,
-            allows_options: false,
-            binding,
-        },
-        peers: Peers::Icmp,
-        made: Clock(0),
-        deadline,
-        timeout: Timeout::IcmpFirst,
-        forth: Traffic { packets: 1, bytes },
-        back: Traffic {
-            packets: 0,
-            bytes: 0,
-        },
-    })
-}
 
 /// The state that is found by the side, the key, the scope and the clock of a line.
 fn found_at(table: &Table, words: &mut Words<'_>) -> Option<Option<State>> {

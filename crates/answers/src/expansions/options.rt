@@ -1,7 +1,7 @@
 //! How options are printed.
 use crate::expansions::rules::state_policy_word;
-use crate::printing::put_bytes;
 use pfr_ruleset::{BlockPolicy, Options};
+use scripts::put_bytes;
 use std::alloc::AllocError;
 
 /// The names of the timeouts by their codes.

@@ -1,8 +1,9 @@
 //! How what rules ask for is printed.
-use crate::printing::{put_address, put_bytes, word_if};
+use crate::printing::{put_address, word_if};
 use pfr_conf::{Statement, Statements};
 use pfr_net::Net;
 use pfr_ruleset::{Comparison, HostCriterion, HostSet, PacketMatch, PortMatch, RangeOperator};
+use scripts::put_bytes;
 use std::alloc::{AllocError, Global};
 
 /// The name by which the table of the interfaces' own addresses is printed. No table of a text may be called so.
