@@ -1,4 +1,4 @@
-//! One batch of packets, of which a gate keeps which are answered.
+//! One batch of packets. A gate keeps which of them are answered.
 
 use crate::feeds::Run;
 use crate::turns::Watch;
@@ -8,7 +8,7 @@ use std::test::Fail;
 use std::thread::sleep;
 use std::time::{Clock, Duration};
 
-/// A packet waits for another one for this number of turns, of a millisecond each.
+/// How many turns, of a millisecond each, a packet waits for another one at most.
 const TURNS: u32 = 10_000;
 
 /// Keeps which of the first 64 packets are answered. One of them may have to wait for another one.

@@ -3,7 +3,7 @@ ghost use Rattle.std.specs.Prelude.{◌≡◌, ◌≤◌, Some};
 ghost use Rattle.pfr_commit.specs.Books.{StandsAt, job_of};
 ghost use Rattle.pfr_commit.specs.World.{opening};
 
-use crate::given::{book, datagrams};
+use crate::inputs::{book, datagrams};
 use crate::turns::{Plan, Told, Turns, Watch};
 use pfr_capture::Record;
 use pfr_commit::{Book, Emitted};
@@ -50,7 +50,7 @@ impl Outputs {
 struct Listed<'a, W> {
     alloc: Global,
     watch: &'a W,
-    /// Those that are left: of each its port and its second.
+    /// The datagrams that are left: the port and the second of each.
     left: &'a [(u16, u32)],
     size: usize,
     given: u64,
@@ -125,9 +125,9 @@ pub(crate) struct Run<'a> {
     pub(crate) takes: u64,
 }
 
-/// What a run over a feed left: whether it went well, its outputs, how many packets came back, how many states the book has and how
-/// many are shown, how many batches it has claims of, the most batches that were held, how many packets the committer evaluated, and how
-/// many rules were asked.
+/// What a run over a feed left: whether it went well, its outputs, how many packets came back, how many states the book
+/// has and how many are shown, how many batches it has claims of, the most batches that were held, how many packets the
+/// committer evaluated, and how many rules were tested.
 #[derive(Drop)]
 pub(crate) struct Left {
     pub(crate) is_ok: bool,
@@ -194,7 +194,7 @@ fn ran<R: AllocGlobal + Threads + Wait + Sync, G: Gate + Watch>(
 }
 
 impl<'a> Run<'a> {
-    /// One by `pass out` whose pieces are all taken whole.
+    /// A run by `pass out` whose pieces are all taken whole.
     pub(crate) fn passing(packets: &'a [(u16, u32)], size: usize) -> Run<'a> {
         Run {
             rules: b"pass out\n",

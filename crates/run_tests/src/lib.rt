@@ -1,6 +1,6 @@
 //! The unit tests of whole runs: packets that workers evaluate ahead, and how far captures are read ahead.
 //!
-//! What a contract says of every input, and what the models of the folder `tests` answer, isn't asked here again.
+//! What a contract says of every input, and what the models of the folder `tests` answer, isn't tested here again.
 #![tactic(auto)]
 
 #[cfg(test)]
@@ -10,7 +10,7 @@ mod answers;
 #[cfg(test)]
 mod feeds;
 #[cfg(test)]
-mod given;
+mod inputs;
 #[cfg(test)]
 mod loopback;
 #[cfg(test)]

@@ -1,5 +1,5 @@
 //! A run that tells a standby over TCP on this machine, each in a thread of its own.
-use crate::given::{HEADER, only_sink, replay_into};
+use crate::inputs::{HEADER, only_sink, replay_into};
 use crate::turns::{Freely, Turns};
 use pfr_capture::{Mem, ReaderSource, WriterSink};
 use pfr_out::{Form, Framing, Sinks, standby};

@@ -60,8 +60,8 @@ fn places(order: usize) -> [u64; COUNT] {
 }
 
 impl Row {
-    /// Whether a run without workers and one with them came to what is expected: as many packets were evaluated by the committer,
-    /// and both emitted the same.
+    /// Whether a run without workers and one with them came to what is expected: the committer evaluated as many
+    /// packets as it has to, and both emitted the same.
     fn expects(&self, alone: &Left, by_workers: &Left) -> bool {
         alone.is_ok
             && by_workers.is_ok
@@ -71,7 +71,8 @@ impl Row {
     }
 }
 
-/// Whether a row comes to what is expected if its packets are evaluated in an order, by as many workers as there are packets.
+/// Whether a row comes to what is expected if its packets are evaluated in an order, by as many workers as there are
+/// packets.
 fn is_expected_in_order<R: AllocGlobal + Threads + Wait + Clock + Sync>(
     rt: &R,
     row: &Row,
@@ -113,7 +114,7 @@ fn a_connection_is_the_same_in_all_orders(rt: HostRuntime) -> Result<(), AllocEr
     see_all_orders(&rt, row)
 }
 
-/// There is room for two states. From the third packet on there is none, and each found some.
+/// There is room for two states. From the third packet on there is none, though each evaluation ahead found some.
 #[test]
 fn a_full_table_is_the_same_in_all_orders(rt: HostRuntime) -> Result<(), AllocError> {
     let row = Row {

@@ -3,8 +3,8 @@
 use pfr_work::pace::{BatchReport, Pace};
 use std::test::Fail;
 
-/// A batch of `packets` packets, which were asked about `asked` rules each. The first `ahead` were evaluated ahead, and all of these
-/// results held.
+/// A batch of `packets` packets. `asked` rules were tested on each. The first `ahead` were evaluated ahead, and all of
+/// these results held.
 fn held(packets: u64, ahead: u64, asked: u64, changes: u64) -> BatchReport {
     BatchReport {
         packets,
@@ -55,8 +55,8 @@ fn a_trial_may_take_several_batches(rt: HostRuntime) -> Result<(), Fail> {
     Ok(())
 }
 
-/// Two workers save half of the rules. In a batch of 256 packets a result costs 30 rules, and its share of two starts nearly 6. In
-/// one of 1024 packets that share is nearly 1.5. A change for each packet adds 50.
+/// Two workers save half of the rules. In a batch of 256 packets a result costs 30 rules, and its share of two starts
+/// nearly 6. In one of 1024 packets that share is nearly 1.5. A change for each packet adds 50.
 #[test]
 fn a_batch_pays_by_the_rules_that_packets_are_asked_about(rt: HostRuntime) -> Result<(), Fail> {
     for (packets, asked, changes, pays) in [
@@ -80,7 +80,8 @@ fn a_batch_pays_by_the_rules_that_packets_are_asked_about(rt: HostRuntime) -> Re
     Ok(())
 }
 
-/// Packets are asked about 100 rules, so a result that holds saves 50, and each one costs nearly 36: 184 of 256 have to hold.
+/// 100 rules are tested on a packet, so a result that holds saves 50, and each one costs nearly 36: 184 of 256 have to
+/// hold.
 #[test]
 fn a_batch_pays_by_the_results_that_hold(rt: HostRuntime) -> Result<(), Fail> {
     for (holding, pays) in [(256, true), (184, true), (183, false), (0, false)] {
@@ -96,8 +97,8 @@ fn a_batch_pays_by_the_results_that_hold(rt: HostRuntime) -> Result<(), Fail> {
     Ok(())
 }
 
-/// The estimate of rules changes after 8 packets. In a batch of 7 a result costs nearly 245 rules: 30, and its share of two starts. It
-/// saves 500 by the packets before it, and nothing by its own.
+/// The estimate of rules changes after 8 packets. In a batch of 7 a result costs nearly 245 rules: 30, and its share of
+/// two starts. It saves 500 by the packets before it, and nothing by its own.
 #[test]
 fn a_few_packets_do_not_tell_how_many_rules_are_asked(rt: HostRuntime) -> Result<(), Fail> {
     for (packets, pays) in [(7, true), (8, false)] {
@@ -108,8 +109,9 @@ fn a_few_packets_do_not_tell_how_many_rules_are_asked(rt: HostRuntime) -> Result
     Ok(())
 }
 
-/// Packets that come while workers rest tell too: here one of eight. The seven others are asked about 500 rules each. In their batch a
-/// result costs nearly 245 rules. It saves 219 if packets are asked about 437 on average, and 250 if all are asked about 500.
+/// Packets that come while workers rest tell too: here one of eight. 500 rules are tested on each of the seven others.
+/// In their batch a result costs nearly 245 rules. It saves 219 if 437 rules are tested on a packet on average, and 250
+/// if 500 are tested on each.
 #[test]
 fn packets_of_a_rest_tell_how_many_rules_are_asked(rt: HostRuntime) -> Result<(), Fail> {
     for (asked, pays) in [(0, false), (500, true)] {
@@ -151,7 +153,8 @@ fn workers_are_given_up_if_there_are_few_rules(rt: HostRuntime) -> Result<(), Fa
     Ok(())
 }
 
-/// Each rest takes four times as many packets as the one before, up to 262 144. A batch that was open before a rest counts too.
+/// Each rest takes four times as many packets as the one before, up to 262 144. A batch that was open before a rest
+/// counts too.
 #[test]
 fn rests_grow(rt: HostRuntime) -> Result<(), Fail> {
     let mut pace = Pace::new(1000, 2);

@@ -1,7 +1,7 @@
 //! How far a source is read ahead of what is written.
 ghost use Rattle.std.specs.Prelude.{◌≤◌};
 
-use crate::given::{capture, replay_into, sinks};
+use crate::inputs::{capture, replay_into, sinks};
 use crate::told::rules;
 use crate::turns::{Freely, Turns};
 use pfr_capture::{Fault, Mem, Source};

@@ -1,4 +1,5 @@
-//! What the published table shows to workers, packet by packet: whether a result holds says which table it was found on.
+//! What the published table shows to workers, packet by packet: whether a result holds says which table it was found
+//! on.
 ghost use Rattle.std.specs.Prelude.{◌≤◌};
 
 use crate::feeds::{Left, Run};
@@ -10,8 +11,9 @@ use std::test::Fail;
 use std::thread::Threads;
 use std::time::Clock;
 
-/// Runs with `workers` workers, as a plan has calls wait, and answers which packets the committer evaluated. There is no answer if
-/// something didn't come that a call waited for, if a result is missing, or if a run without workers leaves something else.
+/// Runs with `workers` workers, as a plan has calls wait, and answers which packets the committer evaluated. There is
+/// no answer if something didn't come that a call waited for, if a result is missing, or if a run without workers
+/// leaves something else.
 fn own_of<R: AllocGlobal + Threads + Wait + Clock + Sync, P: Plan + Sync + Drop>(
     rt: &R,
     run: Run<'_>,
@@ -35,8 +37,8 @@ fn is_same(left: &Left, alone: &Left) -> bool {
         && left.shown == Some(alone.states)
 }
 
-/// A batch is opened once the one three before it is published. So a packet finds its connection as the packet three before has
-/// left it, in a batch of one packet each, whenever it is evaluated.
+/// A batch is opened once the one three before it is published. So a packet finds its connection as the packet three
+/// before has left it, in a batch of one packet each, whenever it is evaluated.
 #[test]
 fn a_batch_is_opened_to_the_table_behind_the_one_three_before(rt: HostRuntime) -> Result<(), Fail> {
     let mut packets = Vec::new(rt.alloc());
@@ -64,8 +66,9 @@ fn sees_published(rt: HostRuntime) -> Result<(), Fail> {
     Ok(())
 }
 
-/// When a batch is the oldest, in a run of `batches` batches of a packet each: once the second one after it is requested, since the one
-/// before it is published by then. After the last batch one more is requested, which there isn't.
+/// When a batch is the oldest, in a run of `batches` batches of a packet each: once the second one after it is
+/// requested, since the one before it is published by then. After the last batch one more is requested, which there
+/// isn't.
 fn once_oldest(batch: u64, batches: u64) -> Option<Until> {
     let asked = batch.saturating_add(2).min(batches.saturating_add(1));
     Some(Until::Asked(asked))
@@ -83,8 +86,8 @@ impl Plan for InItsTurn {
     }
 }
 
-/// All packets but the last are of one connection, each a batch. If each waits until all before it are published, its result
-/// holds.
+/// All packets but the last are of one connection, each a batch. If each waits until all before it are published, its
+/// result holds.
 #[test]
 fn each_packet_waits_for_all_before_it(rt: HostRuntime) -> Result<(), Fail> {
     let mut packets = Vec::new(rt.alloc());
@@ -115,8 +118,8 @@ impl Plan for HeldUp {
     }
 }
 
-/// A worker that is held up holds up no batch but its own. While the gate is told of a packet, the worker looks at no table, so no batch
-/// before has to wait until it is published.
+/// A worker that is held up holds up no batch but its own. While the gate is told of a packet, the worker looks at no
+/// table, so no batch before has to wait until it is published.
 #[test]
 fn whoever_is_told_of_a_packet_holds_up_no_other_batch(rt: HostRuntime) -> Result<(), Fail> {
     let mut packets = Vec::new(rt.alloc());
@@ -134,8 +137,8 @@ fn whoever_is_told_of_a_packet_holds_up_no_other_batch(rt: HostRuntime) -> Resul
     Ok(())
 }
 
-/// Nine packets of three batches are evaluated before the piece of the first batch is taken, so on the empty table. The fields say what
-/// the second piece waits for, and what packets of later batches wait for.
+/// Nine packets of three batches are evaluated before the piece of the first batch is taken, so on the empty table. The
+/// fields say what the second piece waits for, and what packets of later batches wait for.
 #[derive(Clone, Copy)]
 struct Stale {
     second: Option<Until>,
@@ -156,7 +159,8 @@ impl Plan for Stale {
     }
 }
 
-/// Sees that of a run with batches of three packets these packets are evaluated again, whatever the number of workers.
+/// Sees that in a run with batches of three packets the packets `numbers` are evaluated again, whatever the number of
+/// workers.
 fn see_again<R: Abort + AllocGlobal + Threads + Wait + Clock + Sync>(
     rt: &R,
     rules: &[u8],
@@ -182,14 +186,15 @@ fn see_again<R: Abort + AllocGlobal + Threads + Wait + Clock + Sync>(
     Ok(())
 }
 
-/// Three batches that are evaluated on the empty table, and what was done to the table since.
+/// All three batches are evaluated on the empty table.
+const ON_THE_EMPTY_TABLE: Stale = Stale {
+    second: None,
+    later: None,
+};
+
+/// Packets 3, 4, 7 and 9 have the state of an earlier one.
 #[test]
-fn all_are_evaluated_on_the_empty_table(rt: HostRuntime) -> Result<(), Fail> {
-    let stale = Stale {
-        second: None,
-        later: None,
-    };
-    // Packets 3, 4, 7 and 9 have the state of an earlier one.
+fn states_are_made_behind_the_empty_table(rt: HostRuntime) -> Result<(), Fail> {
     let connections = [
         (1000, 0),
         (1001, 0),
@@ -201,10 +206,16 @@ fn all_are_evaluated_on_the_empty_table(rt: HostRuntime) -> Result<(), Fail> {
         (1004, 0),
         (1000, 0),
     ];
-    see_again(&rt, b"pass out\n", &connections, stale, &[3, 4, 7, 9])?;
-    // There is no room for packets 3 and 4, and 5 and 6 have states. When packet 7 comes these have run out, and it and the next one
-    // take the room that packet 9 would need.
-    let full = [
+    let again = &[3, 4, 7, 9];
+    see_again(&rt, b"pass out\n", &connections, ON_THE_EMPTY_TABLE, again)?;
+    Ok(())
+}
+
+/// There is no room for packets 3 and 4, and 5 and 6 have states. When packet 7 comes these have run out, and it and the next one take
+/// the room that packet 9 would need.
+#[test]
+fn the_table_is_full_behind_the_empty_one(rt: HostRuntime) -> Result<(), Fail> {
+    let connections = [
         (1000, 0),
         (1001, 0),
         (1002, 0),
@@ -216,9 +227,15 @@ fn all_are_evaluated_on_the_empty_table(rt: HostRuntime) -> Result<(), Fail> {
         (1001, 100_000),
     ];
     let rules = b"set limit states 2\npass out\n";
-    see_again(&rt, rules, &full, stale, &[3, 4, 5, 6, 9])?;
-    // All states have run out when their connections go on, but that of packet 4, which packet 6 has.
-    let run_out = [
+    let again = &[3, 4, 5, 6, 9];
+    see_again(&rt, rules, &connections, ON_THE_EMPTY_TABLE, again)?;
+    Ok(())
+}
+
+/// All states have run out when their connections go on, but that of packet 4, which packet 6 has.
+#[test]
+fn states_run_out_behind_the_empty_table(rt: HostRuntime) -> Result<(), Fail> {
+    let connections = [
         (1000, 0),
         (1001, 0),
         (1002, 0),
@@ -229,13 +246,13 @@ fn all_are_evaluated_on_the_empty_table(rt: HostRuntime) -> Result<(), Fail> {
         (1003, 100_000),
         (1002, 200_000),
     ];
-    see_again(&rt, b"pass out\n", &run_out, stale, &[6])?;
+    see_again(&rt, b"pass out\n", &connections, ON_THE_EMPTY_TABLE, &[6])?;
     Ok(())
 }
 
-/// The fourth batch is evaluated once it is the oldest: the sixth one is requested, which there isn't. Its first packet finds the
-/// state as the ninth packet left it, its second one doesn't find what the first did, and its third is the first of a connection.
-/// Those of the second batch and the third were evaluated on the empty table.
+/// The fourth batch is evaluated once it is the oldest: the sixth one is requested, which there isn't. Its first packet
+/// finds the state as the ninth packet left it, its second one doesn't find what the first did, and its third is the
+/// first of a connection. Those of the second batch and the third were evaluated on the empty table.
 #[test]
 fn the_oldest_batch_is_evaluated_on_what_all_before_it_left(rt: HostRuntime) -> Result<(), Fail> {
     let stale = Stale {
@@ -264,8 +281,8 @@ fn the_oldest_batch_is_evaluated_on_what_all_before_it_left(rt: HostRuntime) -> 
     Ok(())
 }
 
-/// The fourth batch is evaluated before the second one is taken, so on what the first one left: a state for packet 11. What the
-/// second and the third batch did to the states of packets 10 and 12 wasn't there.
+/// The fourth batch is evaluated before the second one is taken, so on what the first one left: a state for packet 11.
+/// What the second and the third batch did to the states of packets 10 and 12 wasn't there.
 #[test]
 fn the_newest_batch_is_evaluated_on_what_was_published_when_it_was_opened(
     rt: HostRuntime,

@@ -1,7 +1,7 @@
 //! Which packets of a run workers evaluate, and which the committer does.
 ghost use Rattle.std.specs.Prelude.{◌≤◌};
 
-use crate::given::{capture, replay_into, sinks};
+use crate::inputs::{capture, replay_into, sinks};
 use crate::turns::{Freely, Turns};
 use pfr_capture::Mem;
 use pfr_out::{Form, Gate};
@@ -22,8 +22,8 @@ pub(crate) fn rules(alloc: Global, count: u64, others: &[u8]) -> Result<Vec<u8>,
     Ok(text)
 }
 
-/// What a gate is told in a run of `packets` packets through rules: the sum of the numbers of the packets that workers start, of those
-/// that they answer, and of those that the committer evaluates.
+/// What a gate is told in a run of `packets` packets through rules: the sum of the numbers of the packets that workers
+/// start, of those that they answer, and of those that the committer evaluates.
 fn told_by<R: AllocGlobal + Threads + Wait + Clock + Sync>(
     rt: &R,
     text: Vec<u8>,
@@ -91,7 +91,8 @@ fn workers_evaluate_each_batch(rt: HostRuntime) -> Result<(), Fail> {
     Ok(())
 }
 
-/// The sum of the numbers of the first 256 packets of these batches, which have 1024 packets each and are counted from 0.
+/// The sum of the numbers of the first 256 packets of these batches, which have 1024 packets each and are counted from
+/// 0.
 fn beginnings(batches: &[u64]) -> u64 {
     let mut all = 0u64;
     for batch in batches {
@@ -101,8 +102,8 @@ fn beginnings(batches: &[u64]) -> u64 {
     all
 }
 
-/// With one rule they can't pay. Workers evaluate the beginning of the first batch, and no other one is opened before that is judged.
-/// After it they are given up.
+/// With one rule workers can't pay. They evaluate the beginning of the first batch, and no other one is opened before
+/// that is judged. After it they are given up.
 #[test]
 fn workers_are_given_up_where_they_cannot_pay(rt: HostRuntime) -> Result<(), Fail> {
     let answered = beginnings(&[0]);
@@ -111,9 +112,10 @@ fn workers_are_given_up_where_they_cannot_pay(rt: HostRuntime) -> Result<(), Fai
     Ok(())
 }
 
-/// With 60 rules two workers save as much as it takes to hand results over, and to begin each batch they need more. They evaluate the
-/// beginning of the first batch, and rest for 1024 packets once it is judged: the batch 1. They evaluate the beginning of the
-/// batch 2 then, and rest for 4096 packets: the batches 3 to 6. The batch 7 is opened next, and they evaluate its beginning.
+/// With 60 rules two workers save as much as it takes to hand results over, and to begin each batch they need more.
+/// They evaluate the beginning of the first batch, and rest for 1024 packets once it is judged: the batch 1. They
+/// evaluate the beginning of the batch 2 then, and rest for 4096 packets: the batches 3 to 6. The batch 7 is opened
+/// next, and they evaluate its beginning.
 #[test]
 fn workers_rest_where_they_do_not_pay(rt: HostRuntime) -> Result<(), Fail> {
     let answered = beginnings(&[0, 2, 7]);
@@ -122,7 +124,8 @@ fn workers_rest_where_they_do_not_pay(rt: HostRuntime) -> Result<(), Fail> {
     Ok(())
 }
 
-/// With many rules they do. Workers evaluate the beginning of the first batch. Once it is judged they evaluate all of those that come.
+/// With many rules workers pay. They evaluate the beginning of the first batch. Once it is judged they evaluate all
+/// batches that come.
 #[test]
 fn workers_go_on_where_they_pay(rt: HostRuntime) -> Result<(), Fail> {
     let answered = beginnings(&[0]).saturating_add(sum(1025, 5121));
@@ -131,8 +134,8 @@ fn workers_go_on_where_they_pay(rt: HostRuntime) -> Result<(), Fail> {
     Ok(())
 }
 
-/// There are many rules, but the first one decides, so results save nothing. Workers evaluate the beginning of the first batch, rest for
-/// the next one, and evaluate the beginning of the batch 2.
+/// There are many rules, but the first one decides, so results save nothing. Workers evaluate the beginning of the
+/// first batch, rest for the next one, and evaluate the beginning of the batch 2.
 #[test]
 fn workers_rest_where_few_rules_are_asked(rt: HostRuntime) -> Result<(), Fail> {
     let mut text = Vec::new(rt.alloc());
@@ -144,9 +147,9 @@ fn workers_rest_where_few_rules_are_asked(rt: HostRuntime) -> Result<(), Fail> {
     Ok(())
 }
 
-/// The packets are those of one connection, so nearly no result holds, and each of them changes the table. Workers evaluate the
-/// beginning of the first batch, rest for the next one, and evaluate the beginning of the batch 2. Once that is judged enough
-/// packets have come to give them up.
+/// The packets are those of one connection, so nearly no result holds, and each of them changes the table. Workers
+/// evaluate the beginning of the first batch, rest for the next one, and evaluate the beginning of the batch 2. Once
+/// that is judged enough packets have come to give them up.
 #[test]
 fn workers_are_given_up_where_packets_change_the_table(rt: HostRuntime) -> Result<(), Fail> {
     let started = beginnings(&[0, 2]);
@@ -155,7 +158,8 @@ fn workers_are_given_up_where_packets_change_the_table(rt: HostRuntime) -> Resul
     Ok(())
 }
 
-/// Counts how many packets workers evaluate at once, but for the first ones of a run. It holds each of them up for a while.
+/// Counts how many packets workers evaluate at once, but for the first ones of a run. It holds each of them up for a
+/// while.
 #[derive(Drop)]
 struct AtOnce<'a, R> {
     rt: &'a R,
@@ -182,7 +186,8 @@ impl<'a, R: Clock + Sync> Gate for AtOnce<'a, R> {
     }
 }
 
-/// The most packets that `workers` workers evaluate at once, in the two batches after the first one, of 1024 packets each.
+/// The most packets that `workers` workers evaluate at once, in the two batches after the first one, of 1024 packets
+/// each.
 fn most_at_once<R: AllocGlobal + Threads + Wait + Clock + Sync>(
     rt: &R,
     text: &[u8],
@@ -217,8 +222,8 @@ fn most_at_once<R: AllocGlobal + Threads + Wait + Clock + Sync>(
     }
 }
 
-/// With 75 rules three workers evaluate packets more quickly than the committer takes them over. So no more of eight are given the
-/// batches after the first one.
+/// With 75 rules three workers evaluate packets more quickly than the committer takes them over. So no more of eight
+/// are given the batches after the first one.
 #[test]
 fn no_more_workers_are_given_a_batch_than_it_takes(rt: HostRuntime) -> Result<(), Fail> {
     let text = rules(rt.alloc(), 75, &[])?;

@@ -8,7 +8,8 @@ use std::time::{Clock, Duration};
 /// The most turns that a call waits, of 50 microseconds or more each.
 const TURNS: u32 = 40_000;
 
-/// The milliseconds within which a run whose piece wasn't taken whole has its workers stop, however busy the machine is.
+/// The milliseconds within which a run whose piece wasn't taken whole has its workers stop, however busy the machine
+/// is.
 const STOPPING: u64 = 1000;
 
 /// How many calls there were, and the sum of the numbers that they told.
@@ -62,8 +63,8 @@ pub(crate) struct Told {
 /// What a call may wait for.
 #[derive(Clone, Copy)]
 pub(crate) enum Until {
-    /// This number of batches were requested. Each after the third is requested once what the one three before it did to the table is
-    /// published.
+    /// This number of batches were requested. Each after the third is requested once what the one three before it did
+    /// to the table is published.
     Asked(u64),
     /// This number of packets were started.
     Started(u64),
@@ -151,7 +152,7 @@ impl<'a, R: Clock, P: Plan> Turns<'a, R, P> {
         self.late.count() == 0
     }
 
-    /// Whether it has come.
+    /// Whether what `until` says has come.
     fn has_come(&self, until: Until) -> bool {
         match until {
             Until::Asked(count) => self.asked.count() >= count,
@@ -161,7 +162,8 @@ impl<'a, R: Clock, P: Plan> Turns<'a, R, P> {
         }
     }
 
-    /// Waits until it has come, for some seconds at most, and says whether it has. If anything didn't come before, it doesn't wait.
+    /// Waits until it has come, for some seconds at most, and says whether it has. If something before didn't come, it
+    /// doesn't wait.
     fn comes(&self, until: Until) -> bool {
         for _turn in 0..TURNS {
             if self.has_come(until) {

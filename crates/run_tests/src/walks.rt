@@ -1,4 +1,4 @@
-//! How many of the rules that packets visit are asked.
+//! How many of the rules that packets visit are tested.
 
 use crate::feeds::Run;
 use crate::turns::Freely;
@@ -9,8 +9,8 @@ const RULES: &[u8] = b"block quick proto udp to port 1\nblock quick proto udp to
 block quick proto udp to port 3\nblock quick proto udp to port 4\nblock quick proto udp to port 5\n\
 block quick proto udp to port 6\nblock quick proto udp to port 7\nblock quick proto udp to port 8\npass no state\n";
 
-/// The ruleset of a text has an index, by which rules of other ports are passed over: each of two packets visits nine rules. The
-/// last one is asked, and hardly another one.
+/// The ruleset of a text has an index, which passes over rules of other ports. Each of two packets visits nine rules.
+/// The last one is tested, and hardly any other.
 #[test]
 fn rules_of_other_ports_are_passed_over(rt: HostRuntime) -> Result<(), Fail> {
     let run = Run {
