@@ -5,7 +5,7 @@ use Rattle.pfr_report.specs.declared.count.Count.{Count}
 abbrev pub within : ℕ → ℕ
 within number = min number (2 ^ 64 - 1)
 
--- with one packet more, of so many bytes
+-- with one packet more, of `bytes` bytes
 abbrev pub with_one : (bytes : ℕ) → Count → Count
 with_one bytes count = record { packets = within (count.packets + 1); bytes = within (count.bytes + bytes) }
 

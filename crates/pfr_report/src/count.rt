@@ -19,7 +19,7 @@ pub(crate) const NONE: Count = Count {
 };
 
 impl Count {
-    /// Counts one packet more, of so many bytes.
+    /// Counts one packet more, of `bytes` bytes.
     pub fn add(&mut self, bytes: u64)
         ensures { self.new ≡ spec.with_one bytes self.old }
     {
@@ -72,7 +72,7 @@ impl ByVerdict {
         }
     }
 
-    /// Those with a verdict.
+    /// The packets with a verdict.
     pub(crate) fn of(&self, verdict: Verdict) -> Count {
         match verdict {
             Verdict::Pass => self.pass,

@@ -9,7 +9,7 @@ pub(crate) const MOST: u64 = 120;
 /// How many times a span becomes longer at most: a day has twelve lengths before it, and 16 doublings pass 32 bits of seconds.
 const LENGTHENINGS: usize = 40;
 
-/// The length of a span that is longer than one of so many seconds. It is a multiple of that.
+/// The next greater length of a span, in seconds. It is a multiple of `length`.
 fn longer(length: u64) -> u64 {
     match length {
         1 => 5,
@@ -49,7 +49,7 @@ impl Spans {
         }
     }
 
-    /// The place of a span from the first one on, for one that has so many before it.
+    /// The place of a span in the list. `span` counts the spans of this length since the beginning of 1970.
     fn place_of(&self, span: u64) -> u64 {
         span.saturating_sub(self.first)
     }
