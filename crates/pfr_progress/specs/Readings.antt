@@ -5,10 +5,10 @@ use Rattle.std.specs.Prelude.{ℕ, ◌*◌, ◌/◌, ◌^◌, ◌-◌, min, max,
 abbrev pub greatest : ℕ
 greatest = 2 ^ 64 - 1
 
--- packets a second, if there were so many in so many milliseconds
+-- `packets` packets in `milliseconds` milliseconds, as packets a second
 abbrev pub per_second : (packets milliseconds : ℕ) → ℕ
 per_second packets milliseconds = min greatest (packets * 1000) / max milliseconds 1
 
--- the part of so many bytes that were read, in per cent
+-- `read` bytes as a part of `size` bytes, in per cent
 abbrev pub share_of : (read size : ℕ) → ℕ
 share_of read size = if nat_le size read then 100 else min greatest (read * 100) / size

@@ -1,6 +1,9 @@
 //! Numbers that one thread changes while others may look on.
 use std::sync::atomic::{AtomicU64, Ordering};
 
+/// What stands for a number that isn't known.
+const UNKNOWN: u64 = u64::MAX;
+
 /// A number.
 #[derive(Drop)]
 pub(crate) struct Number(AtomicU64);
@@ -18,10 +21,29 @@ impl Number {
         self.0.store(number, Ordering::Relaxed);
     }
 
-    /// Adds to it, and answers what comes out.
-    pub(crate) fn add(&self, more: u64) -> u64 {
-        let sum = self.get().saturating_add(more);
-        self.set(sum);
-        sum
+    /// Adds to it.
+    pub(crate) fn add(&self, more: u64) {
+        self.set(self.get().saturating_add(more));
+    }
+}
+
+/// A number that isn't known at first.
+#[derive(Drop)]
+pub(crate) struct Late(Number);
+
+impl Late {
+    pub(crate) fn new() -> Late {
+        Late(Number::new(UNKNOWN))
+    }
+
+    pub(crate) fn get(&self) -> Option<u64> {
+        match self.0.get() {
+            UNKNOWN => None,
+            number => Some(number),
+        }
+    }
+
+    pub(crate) fn set(&self, number: Option<u64>) {
+        self.0.set(number.unwrap_or(UNKNOWN));
     }
 }

@@ -1,10 +1,10 @@
 //! How far a command has come, said on standard error.
 //!
-//! A [`Meter`] is told of each packet that is taken, and says now and then how many there were, how many a second, which part of the
-//! captures was read, and how many states were made. What it is told changes nothing that is replayed.
+//! A helper of `pfr_views` and `pfr_cli`. A [`Meter`] is told of each packet that is taken. Now and then it says how many packets were
+//! taken, how many a second, which part of the captures was read, and how many states were made. It changes nothing that is replayed.
 //!
-//! Proved are the numbers of a [`Reading`]: packets a second and the share that was read. When a line is written is tested
-//! (`tests/progress`).
+//! The numbers of a [`Reading`] are proved: packets a second, and the share that was read. When a line is written is tested
+//! (`tests/reporting`).
 #![tactic(auto)]
 
 mod counts;

@@ -1,5 +1,5 @@
 //! Who says how far a command has come.
-use crate::counts::Number;
+use crate::counts::{Late, Number};
 use crate::reading::{Reading, per_second, share_of};
 use pfr_capture::Record;
 use pfr_commit::Gate;
@@ -7,21 +7,19 @@ use pfr_headers::View;
 use pfr_packet::Outcome;
 use pfr_track::StateNumber;
 use std::io::Write;
+use std::sync::atomic::{AtomicBool, Ordering};
 use std::time::Clock;
 
 /// How many milliseconds lie between two lines on a terminal at least.
 const ON_TERMINAL: u64 = 500;
 
-/// How many lie between two lines elsewhere at least.
+/// How many milliseconds lie between two lines elsewhere at least.
 const ELSEWHERE: u64 = 10_000;
 
 /// How many bytes the header of a record has in a capture.
 const RECORD_HEADER: u64 = 16;
 
-/// What stands for a number that isn't known.
-const UNKNOWN: u64 = u64::MAX;
-
-/// Is told of packets, and says how far a command has come, once that is asked for.
+/// Is told of packets, and says how far a command has come.
 pub trait Meter: Gate {
     /// Packets are taken from here on. The captures' files have `size` bytes, of which `read` were read, if that is known.
     fn begin(&self, read: u64, size: Option<u64>);
@@ -30,40 +28,40 @@ pub trait Meter: Gate {
     fn end(&self);
 }
 
-/// Says on a stream how far a command has come: on a terminal in one line, which is written again and again, and else in several.
+/// Says on a stream how far a command has come: on a terminal in one line, which is rewritten, and elsewhere in lines of their own.
 #[derive(Drop)]
 pub struct Shown<'a, C, E> {
     clock: &'a C,
     err: E,
     is_terminal: bool,
-    /// 1 if somebody asks for it.
-    asked: Number,
+    /// Whether the command is between its begin and its end.
+    is_running: AtomicBool,
     packets: Number,
     made: Number,
     read: Number,
-    size: Number,
+    size: Late,
     /// When the first packet was taken, in milliseconds.
-    begun: Number,
-    /// When a line may be written again.
+    begun: Late,
+    /// When the next line is due, in milliseconds.
     due: Number,
     /// How many lines were written.
     lines: Number,
 }
 
 impl<'a, C: Clock, E: Write + Copy> Shown<'a, C, E> {
-    /// Nothing is said until it is asked for.
+    /// Says nothing until the command begins.
     pub fn new(clock: &'a C, err: E, is_terminal: bool) -> Shown<'a, C, E> {
         Shown {
             clock,
             err,
             is_terminal,
-            asked: Number::new(0),
+            is_running: AtomicBool::new(false),
             packets: Number::new(0),
             made: Number::new(0),
             read: Number::new(0),
-            size: Number::new(UNKNOWN),
-            begun: Number::new(UNKNOWN),
-            due: Number::new(UNKNOWN),
+            size: Late::new(),
+            begun: Late::new(),
+            due: Number::new(0),
             lines: Number::new(0),
         }
     }
@@ -84,64 +82,60 @@ impl<'a, C: Clock, E: Write + Copy> Shown<'a, C, E> {
         }
     }
 
-    /// How far the command has come.
-    fn reading(&self, now: u64) -> Reading {
+    /// How far the command has come, `milliseconds` milliseconds behind its first packet.
+    fn reading(&self, milliseconds: u64) -> Reading {
         let packets = self.packets.get();
-        let size = self.size.get();
         Reading {
             packets,
-            per_second: per_second(packets, now.saturating_sub(self.begun.get())),
-            share: if size == UNKNOWN {
-                None
-            } else {
-                Some(share_of(self.read.get(), size))
+            per_second: per_second(packets, milliseconds),
+            share: match self.size.get() {
+                Some(size) => Some(share_of(self.read.get(), size)),
+                None => None,
             },
             made: self.made.get(),
         }
     }
 
     /// Writes a line.
-    fn say(&self, now: u64) {
-        let reading = self.reading(now);
+    fn say(&self, milliseconds: u64) {
+        let reading = self.reading(milliseconds);
         let mut err = self.err;
-        // Where this can't be written, nothing else depends on it.
+        // If this can't be written, nothing else depends on it.
         let _ = if self.is_terminal {
             write!(err, "\rpfreplay: {reading}\x1b[K")
         } else {
             writeln!(err, "pfreplay: {reading}")
         };
-        let _ = self.lines.add(1);
+        self.lines.add(1);
     }
 
     /// Counts a packet.
     fn count(&self, packet: &Record, outcome: &Outcome) {
-        let number = self.packets.add(1);
-        let _ = self
-            .read
+        self.packets.add(1);
+        self.read
             .add(RECORD_HEADER.saturating_add(packet.bytes.len() as u64));
-        if outcome.state == Some(StateNumber(number)) {
-            let _ = self.made.add(1);
+        if outcome.state == Some(StateNumber(self.packets.get())) {
+            self.made.add(1);
         }
     }
 
-    /// Writes a line, if it may be written again.
+    /// Writes a line, if one is due.
     fn turn(&self) {
         let Some(now) = self.now() else {
             return;
         };
-        if self.begun.get() == UNKNOWN {
-            self.begun.set(now);
-            self.due.set(now.saturating_add(self.pause()));
-        } else if now >= self.due.get() {
-            self.say(now);
-            self.due.set(now.saturating_add(self.pause()));
+        match self.begun.get() {
+            None => self.begun.set(Some(now)),
+            Some(_) if now < self.due.get() => return,
+            Some(begun) => self.say(now.saturating_sub(begun)),
         }
+        self.due.set(now.saturating_add(self.pause()));
     }
 }
 
 impl<C: Clock + Sync, E: Write + Copy + Sync> Gate for Shown<'_, C, E> {
     fn taken(&self, packet: &Record, _view: &View, outcome: &Outcome) {
-        if self.asked.get() == 1 {
+        if self.is_running.load(Ordering::Relaxed) {
             self.count(packet, outcome);
             self.turn();
         }
@@ -151,8 +145,8 @@ impl<C: Clock + Sync, E: Write + Copy + Sync> Gate for Shown<'_, C, E> {
 impl<C: Clock + Sync, E: Write + Copy + Sync> Meter for Shown<'_, C, E> {
     fn begin(&self, read: u64, size: Option<u64>) {
         self.read.set(read);
-        self.size.set(size.unwrap_or(UNKNOWN));
-        self.asked.set(1);
+        self.size.set(size);
+        self.is_running.store(true, Ordering::Relaxed);
     }
 
     fn end(&self) {
@@ -161,6 +155,6 @@ impl<C: Clock + Sync, E: Write + Copy + Sync> Meter for Shown<'_, C, E> {
             let _ = writeln!(err);
         }
         self.lines.set(0);
-        self.asked.set(0);
+        self.is_running.store(false, Ordering::Relaxed);
     }
 }

@@ -1,4 +1,4 @@
-//! What is said of how far a command has come.
+//! The numbers that tell how far a command has come.
 ghost use Rattle.std.specs.Prelude.{◌≡◌};
 ghost use Rattle.pfr_progress.specs.Readings as spec;
 
@@ -9,7 +9,7 @@ use std::fmt;
 pub struct Reading {
     /// How many packets were taken.
     pub packets: u64,
-    /// How many of them a second.
+    /// How many were taken a second.
     pub per_second: u64,
     /// Which part of the captures' files was read, in per cent, if that is known.
     pub share: Option<u64>,
@@ -17,14 +17,14 @@ pub struct Reading {
     pub made: u64,
 }
 
-/// How many packets a second these are, in so many milliseconds. In none they are as many as in one.
+/// Packets a second, if `packets` packets took `milliseconds` milliseconds. Less than one counts as one.
 pub fn per_second(packets: u64, milliseconds: u64) -> u64
     ensures { result ≡ spec.per_second packets milliseconds }
 {
     packets.saturating_mul(1000) / milliseconds.max(1)
 }
 
-/// Which part of `size` bytes `read` bytes are, in per cent: all of them, if there are no more.
+/// `read` bytes as a part of `size` bytes, in per cent. If they are more than `size`, it is 100.
 pub fn share_of(read: u64, size: u64) -> u64
     ensures { result ≡ spec.share_of read size }
 {

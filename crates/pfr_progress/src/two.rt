@@ -1,4 +1,4 @@
-//! Two who watch one run.
+//! Two gates that watch one run.
 use pfr_capture::Record;
 use pfr_commit::Gate;
 use pfr_headers::View;
