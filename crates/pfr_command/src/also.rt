@@ -9,8 +9,9 @@ ghost use Rattle.pfr_command.specs.Places as spec;
 ghost use Rattle.pfr_command.specs.declared.also.AlsoForm.TheVariants.{Compared, Named, Replayed};
 
 use crate::refused::Refused;
+use crate::table::{Beside, Given, Word};
 use crate::values::{interface_name, network};
-use clap::{Arg, ArgAction, ArgMatches};
+use clap::ArgMatches;
 use pfr_items::Items;
 use pfr_ruleset::Interface;
 use std::alloc::{AllocError, Global};
@@ -20,6 +21,41 @@ pub(crate) const MOST_INTERFACES: usize = 8;
 
 /// The flag that names another interface of a run.
 const FLAG: &str = "--also";
+
+/// The forms of the value behind it.
+const REPLAYED: &str = "NAME,A.B.C.D/BITS,CAPTURE,PACKETS";
+
+const COMPARED: &str = "NAME,A.B.C.D/BITS,CAPTURE";
+
+const NAMED: &str = "NAME,A.B.C.D/BITS";
+
+/// What the help says of the flag if its value names a capture.
+const WITH_CAPTURE: &str =
+    "Another interface with its capture, seven times at most; no name holds a comma";
+
+/// The flag of a command that replays captures.
+pub(crate) const ALSO_REPLAYED: Word = Word {
+    name: "also",
+    given: Given::Repeated(REPLAYED),
+    beside: Beside::Any,
+    help: WITH_CAPTURE,
+};
+
+/// The flag of a command that reads captures.
+pub(crate) const ALSO_COMPARED: Word = Word {
+    name: "also",
+    given: Given::Repeated(COMPARED),
+    beside: Beside::Any,
+    help: WITH_CAPTURE,
+};
+
+/// The flag of a command that reads a ruleset alone.
+pub(crate) const ALSO_NAMED: Word = Word {
+    name: "also",
+    given: Given::Repeated(NAMED),
+    beside: Beside::Any,
+    help: "Another interface, seven times at most; no name holds a comma",
+};
 
 /// What the value behind it has to say.
 #[derive(Clone, Copy)]
@@ -60,29 +96,10 @@ struct AlsoWords<'a> {
 /// How a form is written.
 fn written(form: AlsoForm) -> &'static str {
     match form {
-        AlsoForm::Replayed => "NAME,A.B.C.D/BITS,CAPTURE,PACKETS",
-        AlsoForm::Compared => "NAME,A.B.C.D/BITS,CAPTURE",
-        AlsoForm::Named => "NAME,A.B.C.D/BITS",
+        AlsoForm::Replayed => REPLAYED,
+        AlsoForm::Compared => COMPARED,
+        AlsoForm::Named => NAMED,
     }
-}
-
-/// What the help says of the flag.
-fn help_of(form: AlsoForm) -> &'static str {
-    match form {
-        AlsoForm::Replayed | AlsoForm::Compared => {
-            "Another interface with its capture, seven times at most; no name holds a comma"
-        }
-        AlsoForm::Named => "Another interface, seven times at most; no name holds a comma",
-    }
-}
-
-/// The flag as the command line has it.
-pub(crate) fn also_arg<'a>(alloc: Global, form: AlsoForm) -> Arg<'a> {
-    Arg::new(alloc, "also")
-        .long("also")
-        .value_name(written(form))
-        .help(help_of(form))
-        .action(ArgAction::Append)
 }
 
 /// What stands before the first comma of a word and behind it.

@@ -1,13 +1,14 @@
 //! The flags that say what the text of a ruleset can't.
 use crate::refused::Refused;
-use clap::{Arg, ArgAction, ArgMatches};
+use crate::table::{Beside, Given, Word};
+use clap::ArgMatches;
 use pfr_items::Items;
 use pfr_prepare::{Flag, FlagKind};
-use std::alloc::{AllocError, Global};
+use std::alloc::Global;
 
 /// A flag that may be given as often as needed.
 #[derive(Clone, Copy)]
-struct Surrounding {
+pub(crate) struct Surrounding {
     kind: FlagKind,
     name: &'static str,
     /// The same as it is written.
@@ -17,7 +18,7 @@ struct Surrounding {
 }
 
 /// The flags that say what the text of a ruleset can't, in the order in which what they give is taken.
-const SURROUNDINGS: [Surrounding; 6] = [
+pub(crate) const SURROUNDINGS: [Surrounding; 6] = [
     Surrounding {
         kind: FlagKind::InterfaceAddress,
         name: "interface-address",
@@ -63,13 +64,14 @@ const SURROUNDINGS: [Surrounding; 6] = [
 ];
 
 impl Surrounding {
-    /// The flag as the command line has it.
-    fn arg<'a>(&self, alloc: Global) -> Arg<'a> {
-        Arg::new(alloc, self.name)
-            .long(self.name)
-            .value_name(self.form)
-            .help(self.help)
-            .action(ArgAction::Append)
+    /// The flag as the command line has it, beside the flag that it needs.
+    pub(crate) fn word(&self, beside: Beside) -> Word {
+        Word {
+            name: self.name,
+            given: Given::Repeated(self.form),
+            beside,
+            help: self.help,
+        }
     }
 
     /// What the word behind the flag gives.
@@ -103,36 +105,6 @@ impl Surrounding {
             None => Ok(()),
         }
     }
-}
-
-/// The flags that say what the text of a ruleset can't, each of which may be given as often as needed. If they need it, they are refused
-/// without the flag that has the ruleset rewritten.
-pub(crate) fn surrounding_args<'a>(
-    alloc: Global,
-    need_adapt: bool,
-) -> Result<Vec<Arg<'a>>, AllocError> {
-    let mut args = Vec::new(alloc);
-    add_args(alloc, &mut args, need_adapt).and(Ok(args))
-}
-
-fn add_args<'a>(
-    alloc: Global,
-    args: &mut Vec<Arg<'a>>,
-    need_adapt: bool,
-) -> Result<(), AllocError> {
-    for surrounding in &SURROUNDINGS {
-        add_arg(args, surrounding.arg(alloc), need_adapt)?;
-    }
-    Ok(())
-}
-
-fn add_arg<'a>(args: &mut Vec<Arg<'a>>, arg: Arg<'a>, needs_adapt: bool) -> Result<(), AllocError> {
-    if needs_adapt {
-        args.push(arg.requires_arg("adapt")?)?;
-    } else {
-        args.push(arg)?;
-    }
-    Ok(())
 }
 
 /// What a command line gives by the flags that say what the text of a ruleset can't.

@@ -12,7 +12,7 @@ use pfr_prepare::Request;
 use pfr_ruleset::Interface;
 use std::alloc::Global;
 
-/// The word for this place or flag, which was asked for.
+/// The word for this place or flag, which the command needs.
 pub(crate) fn given<'a>(matches: &ArgMatches<'a>, name: &'a str) -> Result<&'a str, Refused<'a>> {
     matches.get_str(name).ok_or(Refused::MissingWord(name))
 }

@@ -24,6 +24,7 @@ mod refused;
 mod report;
 mod run;
 mod show;
+mod table;
 mod values;
 mod ways;
 mod words;

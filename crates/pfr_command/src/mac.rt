@@ -8,8 +8,9 @@ ghost use Rattle.pfr_command.specs.Macs as spec;
 
 use crate::also::{CaptureWords, is_named};
 use crate::refused::Refused;
+use crate::table::{Beside, Given, Word};
 use crate::values::{digit, interface_name};
-use clap::{Arg, ArgAction, ArgMatches};
+use clap::ArgMatches;
 use pfr_headers::EthernetAddress;
 use pfr_items::Items;
 use pfr_net::notation;
@@ -21,22 +22,19 @@ const FLAG: &str = "--mac";
 /// The form of the value behind it.
 const FORM: &str = "NAME=AA:BB:CC:DD:EE:FF";
 
+/// The flag as the command line has it.
+pub(crate) const MAC: Word = Word {
+    name: "mac",
+    given: Given::Repeated(FORM),
+    beside: Beside::Any,
+    help: "An interface's Ethernet address; of its capture the frames that it sent go out, all others come in",
+};
+
 /// An interface of a run by its name, and its link-level address.
 #[derive(Clone, Copy)]
 pub(crate) struct MacWords<'a> {
     interface: &'a str,
     address: EthernetAddress,
-}
-
-/// The flag as the command line has it.
-pub(crate) fn mac_arg<'a>(alloc: Global) -> Arg<'a> {
-    let help =
-        "An interface's Ethernet address; of its capture the frames that it sent go out, all others come in";
-    Arg::new(alloc, "mac")
-        .long("mac")
-        .value_name(FORM)
-        .help(help)
-        .action(ArgAction::Append)
 }
 
 /// The number that two hexadecimal digits of either case write.

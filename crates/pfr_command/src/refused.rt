@@ -11,7 +11,7 @@ pub enum Refused<'a> {
     NoWords,
     /// The words of the command line don't fit, as this text says.
     Usage(String),
-    /// No word was given where this one is asked for.
+    /// The word for this place or flag is missing.
     MissingWord(&'a str),
     /// A word isn't of the form that the flag asks for.
     BadValue {

@@ -32,7 +32,7 @@ pub struct RunWords<'a> {
     pub workers: u64,
     /// The files that are written, and where the messages go.
     pub outputs: OutputNames<'a>,
-    /// Whether warnings are asked for.
+    /// Whether the words ask for warnings.
     pub warns: bool,
     /// Whether it is said how far the run has come.
     pub progresses: bool,
@@ -42,10 +42,10 @@ pub struct RunWords<'a> {
     pub ghost workers_within: { workers ≤ 64 },
 }
 
-/// How many packets are taken and written at a time where the words don't say.
+/// How many packets are taken and written at a time if the words don't say.
 const BATCH: usize = 256;
 
-/// How many workers evaluate them ahead where the words don't say. Where they don't pay they rest.
+/// How many workers evaluate packets ahead if the words don't say. If they don't pay, they rest.
 const WORKERS: u64 = 4;
 
 /// The files that a run writes beside the packets of its interfaces, and where its messages go.

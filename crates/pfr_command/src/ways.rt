@@ -20,7 +20,7 @@ use std::alloc::Global;
 pub struct Ways {
     /// The networks whose packets go out: none if the flag for them isn't given.
     pub inside: Inside,
-    /// The link-level addresses of the interfaces, where they are given, by the places of the captures.
+    /// The link-level addresses of the interfaces, if they are given, by the places of the captures.
     pub link_addresses: Items<Option<EthernetAddress>>,
     /// On which side of their translation packets that go out were captured.
     pub tap: Tap,

@@ -104,7 +104,7 @@ fn asked_by<'a>(alloc: Global, matches: &ArgMatches<'a>) -> Result<Asked<'a>, Re
     }
 }
 
-/// What becomes of words that are no command: a text where they ask for it, and else what is wrong with them.
+/// What words come to that are no command: a text if they ask for one, and else what is wrong with them.
 fn refused<'a>(alloc: Global, error: &clap::Error) -> Result<Asked<'a>, Refused<'a>> {
     match error.kind() {
         ErrorKind::OutOfMemory => Err(Refused::from(AllocError)),
