@@ -98,7 +98,7 @@ finding_list (Some finding) = finding ∷ []
 unfoldable pub unsettled_findings : List ℕ → Place → List Finding
 unsettled_findings text place = finding_list (unsettled_from place.offset (marks text))
 
--- as it is, and it is said where it would be rewritten again
+-- as it is; the place at which it would be rewritten again is said
 unfoldable pub unsettled : List ℕ → Place → Adapted
 unsettled text place = record (unchanged text) { findings = unsettled_findings text place }
 
@@ -106,7 +106,7 @@ abbrev pub settled_by : List ℕ → Adapted → Option Place → Adapted
 settled_by text all None = all
 settled_by text all (Some place) = unsettled text place
 
--- with all that is to be rewritten, unless something of what comes out would be rewritten again
+-- with all that is to be rewritten, unless the new text would be rewritten again
 unfoldable pub settled : List ℕ → Surroundings → Adapted
 settled text around = let all = adapted_by text (changes_for text around) in
     if is_accepted all.text around then all else settled_by text all (again_at all around)

@@ -229,7 +229,7 @@ fn unsettled_findings<'a>(
     Ok(findings)
 }
 
-/// A text as it is, that would have to be rewritten again at a place.
+/// A text that stays as it is, since it would have to be rewritten again at `place`.
 #[tactic(auto, unfolding(crate::specs::Adapting::unsettled))]
 fn unsettled<'a>(alloc: Global, text: &'a [u8], place: Place) -> Result<Adapted<'a>, AllocError>
     ensures { IfOk result (λ adapted. adapted ≡ spec.unsettled text.now place) }
@@ -243,7 +243,8 @@ fn unsettled<'a>(alloc: Global, text: &'a [u8], place: Place) -> Result<Adapted<
     })
 }
 
-/// A text with all that is to be rewritten, unless something of what comes out would be rewritten again: then as it is, and this is said.
+/// A text with all that is to be rewritten. If the new text would be rewritten again, the text stays as it is, and this
+/// is said.
 #[tactic(auto, unfolding(crate::specs::Adapting::settled))]
 fn settled<'a>(
     alloc: Global,
@@ -263,10 +264,10 @@ fn settled<'a>(
     }
 }
 
-/// A text in the words of the strict reader, as far as they say what it says, and what was rewritten for that.
+/// A text in the words of the strict reader, as far as they can say the same, and what was rewritten for that.
 ///
-/// A text that the strict reader accepts is answered as it is, and nothing is said of it. What is answered is answered as it is if it is
-/// given again.
+/// A text that the strict reader accepts is answered as it is, and nothing is said of it. An adapted text that is
+/// adapted again stays as it is.
 #[tactic(auto, unfolding(crate::specs::Adapting::adapted))]
 pub fn adapt<'a>(
     alloc: Global,
@@ -282,8 +283,9 @@ pub fn adapt<'a>(
     }
 }
 
-/// The rules and anchors of a text that hold for no packet, since they name other interfaces than those that it is for: each at the
-/// first of them. A group that is given isn't taken for one if the text was adapted, since its interfaces are written for it then.
+/// The rules and anchors of a text that hold for no packet, since they name other interfaces than those that the text
+/// is for. Each is reported at the first interface that it names. If the text was adapted, a group that is given stands
+/// for its interfaces, since they are written in its place; else its name is taken for an interface's.
 pub fn rules_of_others<'a>(
     alloc: Global,
     text: &'a [u8],

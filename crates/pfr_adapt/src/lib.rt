@@ -1,7 +1,7 @@
-//! A ruleset text as it is written, as the strict reader may take it.
+//! A ruleset text as it is written, rewritten for the strict reader. A helper of `pfr_prepare`.
 //!
-//! [`adapt`] rewrites what a text says in words that the strict reader doesn't know, and says what it did. A text that is accepted as it
-//! is stays so, and so does what was adapted before ([`laws`]).
+//! [`adapt`] rewrites what a text says in words that the strict reader doesn't know, and says what it did. A text that
+//! the strict reader accepts stays as it is, and so does a text that was adapted before ([`laws`]).
 #![tactic(auto)]
 
 pub mod adapting;

@@ -151,7 +151,7 @@ opening_is_form text left reading o =
     let enough : ltb (length text) 24 ≡ false = le-ltb _ _ (rw whole (omega (arith, length-append reading.header (reading.ahead ++ left)))) in
     rw (enough, header) h.says
 
--- where reading failed, what was read is a capture of just the records given
+-- if reading failed, what was read is a capture of just the records given
 pub read_is_capture : (reading : Reading) (read : List ℕ) (given : List RecordBytes) → HasGiven reading read given → LacksRecord reading Read → (tail : Tail) × IsCapture read reading.form given (Ok tail)
 read_is_capture reading read given h (tail, ends) = (
   tail,

@@ -35,7 +35,7 @@ captured_of-append order xs ys long =
 pub before_is : (old new before left : List ℕ) → CameBehind old new before left → old ++ before ≡ new ++ left
 before_is old new before left c = rw (c.gave, c.behind) (sym (append_assoc old c.came left))
 
--- and nothing else where the source has nothing left
+-- and nothing else if the source has nothing left
 pub before_is_new : (old new before left : List ℕ) → CameBehind old new before left → left ≡ [] → old ++ before ≡ new
 before_is_new old new before left c none = before_is old new before left c ∙ (rw none (append-nil new))
 
@@ -75,7 +75,7 @@ ends_part order count old new captured h x short =
       part = λ may header. rw asks short;
     }
 
--- where a record's bytes were asked for and reading failed
+-- if a record's bytes were requested and reading failed
 pub lacks_record : (order : ByteOrder) (count : ℕ) (old new : List ℕ) (captured : ℕ) (e : CaptureError) → HasHeader order count old captured → Extends old new → length new < 16 + captured → StepLacks order count new e
 lacks_record order count old new captured Read h x short = (Cut, ends_part order count old new captured h x short)
 lacks_record order count old new captured HeaderCut h x short = tt

@@ -1,7 +1,7 @@
 -- What the calls of a device move, and how they count its failures.
 use Rattle.std.specs.Prelude.{◌≡◌, ◌+◌, ◌-◌, ◌^◌, ◌≤◌, ℕ, zero, suc, min, List, [], ◌∷◌, ◌++◌, take, Result, Ok, Err}
 
--- the bytes of a piece that a call moved: so many from its front, and none where the device failed
+-- the bytes of a piece that a call moved: `count` from its front, and none if the device failed
 abbrev pub moved : {E : Type 0} → Result ℕ E → List ℕ → List ℕ
 moved (Ok count) piece = take count piece
 moved (Err fault) piece = []
@@ -26,7 +26,7 @@ after_read (Err fault) failures = one_more failures
 abbrev pub Rose : ℕ → ℕ → Type 0
 Rose old new = one_more old ≤ new
 
--- a text went to the end of old as far as `rest`, which is still to come
+-- `new` is `old` with a beginning of the text behind it; `rest` of the text is still to come
 pub record Added (old new text rest : List ℕ) : Type 0 where
   pub added : List ℕ
   pub text_is : text ≡ added ++ rest

@@ -1,8 +1,8 @@
 -- The header of a capture: the classic pcap format (pcap-savefile(5)).
 --
 -- A file begins with 24 bytes: magic number 4, major version 2, minor version 2, two unused fields of 4,
--- snapshot length 4, link type 4. The magic number is 0xa1b2c3d4 where the fractions of the records are
--- microseconds and 0xa1b23c4d where they are nanoseconds; the order of its bytes is the order of all
+-- snapshot length 4, link type 4. The magic number is 0xa1b2c3d4 if the fractions of the records are
+-- microseconds, and 0xa1b23c4d if they are nanoseconds; the order of its bytes is the order of all
 -- numbers in the file's headers.
 use Rattle.std.specs.Prelude.{ℕ, ◌%◌, Bool, not, ◌==◌, ◌||◌, nat_lt, if◌then◌else◌, List, length, take, drop, Option, Some, None, Result, Ok, Err}
 use Rattle.std.specs.Int.{from_be_bytes, from_le_bytes, w16, w32}

@@ -76,11 +76,11 @@ abbrev pub answer_again : Result Tail CaptureError → Result (Option Record) Ca
 answer_again (Ok tail) = Ok None
 answer_again (Err e) = Err e
 
--- the text is a capture of the records given so far, which ends so
+-- what was read, followed by `before`, is a capture of the records given so far, which ends with `ending`
 abbrev pub EndsCapture : Reading → List ℕ → Result Tail CaptureError → Type 0
 EndsCapture reading before ending = (read : List ℕ) (records : List RecordBytes) → HasGiven reading read records → IsCapture (read ++ before) reading.form records ending
 
--- where a call gives no record, the capture ends as its reading does
+-- if a call gives no record, the capture ends as its reading does
 abbrev pub EndsReading : (old new : Reading) → List ℕ → Option Record → Type 0
 EndsReading old new before found = IfNone found (IfSome new.over (EndsCapture old before))
 
@@ -96,18 +96,18 @@ RefusesHeader text Read = ⊤
 RefusesHeader text Memory = ⊤
 RefusesHeader text e = opening_of text ≡ Err e
 
--- where reading failed or memory was refused, not all of the header's 24 bytes had come
+-- if reading failed or memory was refused, not all of the header's 24 bytes had come
 abbrev pub StopsEarly : List ℕ → List ℕ → CaptureError → Type 0
 StopsEarly before left Read = length before < 24 + length left
 StopsEarly before left Memory = length before < 24 + length left
 StopsEarly before left e = ⊤
 
--- a record is refused as too long where the capture ends so
+-- a record is refused as too long only if the capture ends so
 abbrev pub Refuses : Reading → List ℕ → CaptureError → Type 0
 Refuses reading before (RecordTooLong asked) = EndsCapture reading before (Err (RecordTooLong asked))
 Refuses reading before e = ⊤
 
--- where reading failed, the bytes that came hold no further record: there are none, or a beginning of one
+-- if reading failed, the bytes that came hold no further record: there are none, or a beginning of one
 abbrev pub LacksRecord : Reading → CaptureError → Type 0
 LacksRecord reading Read = (tail : Tail) × EndsAs reading.form.order reading.count reading.ahead (Ok tail)
 LacksRecord reading e = ⊤

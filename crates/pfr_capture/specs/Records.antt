@@ -37,20 +37,20 @@ pub record IsRecord (order : ByteOrder) (r : RecordBytes) : Type 0 where
   pub captured : length r.bytes ≡ captured_of order r.header
   pub within : length r.bytes ≤ 262144
 
--- a record's header is there, and asks for too many bytes
+-- a record's header is there, and its captured length is too great
 pub record IsTooLong (order : ByteOrder) (count : ℕ) (rest : List ℕ) (asked : ℕ) : Type 0 where
   pub may_follow : count < 2 ^ 40
   pub header : 16 ≤ length rest
   pub asks : captured_of order rest ≡ asked
   pub above : 262144 < asked
 
--- there are bytes, and unless there are as many records as a capture may have, they don't hold a record
+-- there are bytes, and they don't hold a whole record, unless the capture has all the records that it may have
 pub record IsCut (order : ByteOrder) (count : ℕ) (rest : List ℕ) : Type 0 where
   pub some : 0 < length rest
   pub allowed : count < 2 ^ 40 → 16 ≤ length rest → captured_of order rest ≤ 262144
   pub part : count < 2 ^ 40 → 16 ≤ length rest → length rest < 16 + captured_of order rest
 
--- how a capture ends after so many records, by the bytes that are left
+-- how a capture ends after `count` records, by the bytes that are left
 abbrev pub EndsAs : ByteOrder → ℕ → List ℕ → Result Tail CaptureError → Type 0
 EndsAs order count rest (Ok Clean) = rest ≡ []
 EndsAs order count rest (Ok Cut) = IsCut order count rest

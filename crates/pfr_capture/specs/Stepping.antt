@@ -12,7 +12,7 @@ use Rattle.pfr_capture.specs.declared.reader.Step.TheVariants.{Found, Ended}
 use Rattle.pfr_capture.specs.Records.{IsRecord, IsTooLong, EndsAs, captured_of, text_of}
 use Rattle.pfr_capture.specs.Reading.{FieldsOf, bytes_of}
 
--- the header of a next record is there, and asks for so many bytes, which a record may have
+-- the header of a next record is there; its captured length is `captured`, which isn't too great
 pub record HasHeader (order : ByteOrder) (count : ℕ) (ahead : List ℕ) (captured : ℕ) : Type 0 where
   pub may_follow : count < 2 ^ 40
   pub header : 16 ≤ length ahead
@@ -34,7 +34,7 @@ abbrev pub IsWhole : List ℕ → Look → Type 0
 IsWhole ahead (Captured captured) = 16 + captured ≤ length ahead
 IsWhole ahead (End tail) = ⊤
 
--- the source gave bytes, and of those that were there and these, so many were taken from the front
+-- the source gave bytes, and `taken` was taken from the front of the bytes that were there and these
 pub record Takes (old new before left taken : List ℕ) : Type 0 where
   pub came : List ℕ
   pub gave : before ≡ came ++ left
@@ -56,12 +56,12 @@ abbrev pub StepEnds : ByteOrder → ℕ → List ℕ → Step → Type 0
 StepEnds order count rest (Found r) = ⊤
 StepEnds order count rest (Ended tail) = EndsAs order count rest (Ok tail)
 
--- a record that is too long is so by the bytes that were left
+-- a record is refused as too long only if the bytes that were left say so
 abbrev pub StepRefuses : ByteOrder → ℕ → List ℕ → CaptureError → Type 0
 StepRefuses order count rest (RecordTooLong asked) = IsTooLong order count rest asked
 StepRefuses order count rest e = ⊤
 
--- where reading failed, the bytes ahead hold no record
+-- if reading failed, the bytes ahead hold no record
 abbrev pub StepLacks : ByteOrder → ℕ → List ℕ → CaptureError → Type 0
 StepLacks order count ahead Read = (tail : Tail) × EndsAs order count ahead (Ok tail)
 StepLacks order count ahead e = ⊤

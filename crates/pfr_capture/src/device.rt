@@ -4,14 +4,14 @@ ghost use Rattle.pfr_capture.specs.Device.{moved, after_read, after_write};
 
 use thiserror::Error;
 
-/// A device failed to read or write. It says no more: which device it was is known where it is used.
+/// A device failed to read or write. It says no more: the caller knows which device it was.
 #[derive(Clone, Copy, Debug, Error)]
 #[error("the device failed")]
 pub struct Fault;
 
 /// What takes bytes.
 ///
-/// `written` is what it has taken so far, where it tells (see [`Sink::tells`]), and `failures` counts
+/// `written` is what it has taken so far, if it tells (see [`Sink::tells`]), and `failures` counts
 /// the calls that failed; a count at its last value stays there.
 pub trait Sink {
     ghost told: { Self → Bool };
@@ -36,7 +36,7 @@ pub trait Sink {
 
 /// What gives bytes.
 ///
-/// `unread` is what it has still to give, where it tells, and `failures` counts the calls that failed;
+/// `unread` is what it has still to give, if it tells, and `failures` counts the calls that failed;
 /// a count at its last value stays there.
 pub trait Source {
     ghost told: { Self → Bool };

@@ -4,8 +4,8 @@
 //! bytes in memory; [`ReaderSource`] and [`WriterSink`] are devices over std's readers and writers.
 //!
 //! [`Capture`] reads the classic pcap format from a source. Its contract says that the records given so
-//! far, followed by the bytes not given yet, are those of the source's bytes, that a refusal comes only
-//! where the format has it or the source failed, and that a refusal is for good.
+//! far, followed by the bytes not given yet, are those of the source's bytes. A refusal comes only if the
+//! format has it, the source failed or memory was refused, and it is for good.
 #![tactic(auto)]
 
 pub mod capture;

@@ -42,7 +42,7 @@ impl Mem {
         }
     }
 
-    /// The same device, moving at most so many bytes a call. With 0 a write takes nothing, and a read of
+    /// The same device, moving at most `most` bytes a call. With 0 a write takes nothing, and a read of
     /// bytes that are there fails.
     pub fn at_most(self, most: usize) -> Mem
         ensures { result ≡ record self { most = most } }
@@ -50,7 +50,7 @@ impl Mem {
         Mem { most, ..self }
     }
 
-    /// The same device, failing at one call: the first after so many reads and writes that go well.
+    /// The same device, failing at one call: the first after `calls` reads and writes that go well.
     pub fn failing_after(self, calls: u64) -> Mem
         ensures { result ≡ record self { until_failure = Some calls } }
     {

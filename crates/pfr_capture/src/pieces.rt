@@ -9,11 +9,11 @@ use crate::device::Source;
 use std::alloc::{AllocError, Global};
 use std::marker::Model;
 
-/// How many bytes one call asks of the source, and the most by which the buffer grows before they came.
+/// How many bytes one call requests from the source, and the most by which the buffer grows before they come.
 const PIECE: usize = 65536;
 
-/// The bytes that came from a source and were not taken yet. The buffer is longer than they reach: what is
-/// behind them is room for the next piece, which is cleared as the buffer grows, and not before each read.
+/// The bytes that came from a source and were not taken yet. Behind them the buffer has room for the next
+/// piece. The room is cleared as the buffer grows, not before each read.
 #[derive(Drop)]
 pub struct Pieces {
     buffer: Vec<u8>,
@@ -50,7 +50,7 @@ impl Pieces {
         }
     }
 
-    /// Whether so many more bytes may not be there yet: fewer are held, and the source had less than it was asked for the last time.
+    /// Whether `bytes` bytes may not be there yet: fewer are held, and the last read brought less than it asked for.
     pub fn may_lack(&self, bytes: usize) -> bool {
         self.came_short && self.bytes().len() < bytes
     }
@@ -79,8 +79,8 @@ impl Pieces {
     }
 
     /// Reads one more piece, behind what is there, and answers whether any byte came: none does at the
-    /// source's end. An error changes nothing. It is called once for many records, and stays out of the way
-    /// of a call to `fill` that finds its bytes there.
+    /// source's end. An error changes nothing. It is called once for many records, and isn't inlined, so that
+    /// a call to `fill` that finds its bytes there is quick.
     #[inline(never)]
     pub fn read_on<S: Source>(&mut self, source: &mut S) -> Result<bool, CaptureError>
         ensures told { S.told source.new ≡ S.told source.old }
@@ -102,7 +102,7 @@ impl Pieces {
         Ok(came > 0)
     }
 
-    /// Reads on until so many bytes are there, and answers whether they are: they aren't where the source
+    /// Reads on until `wanted` bytes are there, and answers whether they are: they aren't if the source
     /// ended.
     #[inline]
     pub fn fill<S: Source>(&mut self, source: &mut S, wanted: usize) -> Result<bool, CaptureError>
@@ -136,7 +136,7 @@ fn move_to_front(buffer: &mut Vec<u8>, start: usize, end: usize)
     buffer.copy_within(start..end, 0);
 }
 
-/// Sees that a piece has room behind so many bytes, which stay.
+/// Makes room for a piece behind the first `held` bytes, which stay.
 fn make_room(buffer: &mut Vec<u8>, held: usize) -> Result<(), AllocError>
     requires { held ≤ length buffer.old.items }
     ensures held { take held buffer.new.items ≡ take held buffer.old.items }
@@ -149,7 +149,7 @@ fn make_room(buffer: &mut Vec<u8>, held: usize) -> Result<(), AllocError>
     Ok(())
 }
 
-/// Reads one piece behind so many bytes, which stay, and answers how many came.
+/// Reads one piece behind the first `held` bytes, which stay, and answers how many bytes came.
 fn read_behind<S: Source>(
     buffer: &mut Vec<u8>,
     held: usize,

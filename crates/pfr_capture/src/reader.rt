@@ -38,7 +38,7 @@ enum Step {
 }
 
 /// Reads the records of a capture, one after the other. It asks its source for pieces of at most 65536
-/// bytes, and only where it lacks bytes of the next record.
+/// bytes, and only if it lacks bytes of the next record.
 #[derive(Drop)]
 pub struct Capture {
     form: Form,
@@ -136,8 +136,8 @@ impl Capture {
         }
     }
 
-    /// Whether who reads so many bytes on may have to wait for the source. Nothing rests on it: the source may have more by now, or
-    /// have ended.
+    /// Whether reading the next `bytes` bytes may have to wait for the source. Nothing depends on it: the source may
+    /// have more by now, or have ended.
     pub fn may_wait(&self, bytes: usize) -> bool {
         self.ahead.may_lack(bytes)
     }
@@ -147,7 +147,7 @@ impl Capture {
         self.ahead.taken()
     }
 
-    /// Takes a record back that isn't needed any more. Its buffer may serve for one that is still to be read.
+    /// Takes back a record that isn't needed any more. Its buffer may serve for a later record.
     pub fn give_back(&mut self, packet: Record)
         ensures { self.new ≡ self.old }
     {
@@ -353,7 +353,7 @@ fn find_next<S: Source>(
     }
 }
 
-/// The record at the front of the bytes, with so many captured bytes, which go into an empty buffer.
+/// The record at the front of the bytes. Its `captured` captured bytes go into `buffer`, which is empty.
 fn record_at(
     form: Form,
     bytes: &[u8],

@@ -35,7 +35,7 @@ impl Stock {
         }
     }
 
-    /// Keeps a buffer, unless it is long. Where there is no memory for its place it goes.
+    /// Keeps a buffer, unless it is long. If there is no memory for its place, it is freed.
     pub(crate) fn keep(&mut self, buffer: Vec<u8>) {
         if buffer.capacity() <= LONGEST {
             let _ = self.buffers.push(buffer);

@@ -9,7 +9,8 @@ pub record IsNext (keys : List ℕ) (key from place : ℕ) : Type 0 where
   pub none : (k : ℕ) → from ≤ k → k < place → slice_get keys k ≢ Some key
   pub has : place < length keys → slice_get keys place ≡ Some key
 
--- what is kept of the places from one on: for each key the first of them that has it, for each of them the next one with its key
+-- what is kept of the places from `place` on: for each key the first of them that has it, for each of them the next one
+-- with its key
 pub record AreChainsFrom (place : ℕ) (keys firsts nexts : List ℕ) : Type 0 where
   pub size : length nexts ≡ length keys
   pub first : (key : ℕ) → key < length firsts → IsNext keys key place (slice_index_or firsts key 0)
@@ -24,7 +25,7 @@ pub record AreChains (keys firsts nexts : List ℕ) : Type 0 where
   pub keys_fit : AreKeys keys firsts
   pub chains : AreChainsFrom 0 keys firsts nexts
 
--- `now` is on the key's chain, at the first place with the key from some place on that isn't past `from`
+-- `now` is on the key's chain: the first place with the key from some place `low` on, which isn't past `from`
 pub record IsOn (keys : List ℕ) (key from now : ℕ) : Type 0 where
   pub low : ℕ
   pub before : low ≤ from

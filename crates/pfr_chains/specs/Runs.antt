@@ -1,4 +1,4 @@
--- Where the runs of a list end, of which some places begin one.
+-- Where the runs of a list end; some of its places begin one.
 use Rattle.std.specs.Prelude.{◌≡◌, ◌<◌, ◌≤◌, ℕ, Bool, true, false, List, length, slice_index_or}
 
 -- where the run of a place ends: behind it, with no beginning between, and at a beginning or the list's end

@@ -24,7 +24,7 @@ impl Model for Chains {
     ghost invariant = { λ c. spec.AreChains c.keys.items c.firsts.items c.nexts.items };
 }
 
-/// Puts a place before those behind it on the chain of its key.
+/// Puts a place at the front of the chain of its key, which has only places behind it.
 fn put_before(keys: &[u32], firsts: &mut [u32], nexts: &mut [u32], place: usize)
     requires keys { spec.AreKeys keys.now firsts.old }
     requires place { place < length keys.now }
@@ -37,7 +37,8 @@ fn put_before(keys: &[u32], firsts: &mut [u32], nexts: &mut [u32], place: usize)
     firsts[key] = place as u32;
 }
 
-/// Leads from each place to the next one with its key, and from each key to its first place. Before, every entry of both is the length.
+/// Leads from each place to the next one with its key, and from each key to its first place. Before the call each entry
+/// of `firsts` and `nexts` is the list's length.
 fn lead(keys: &[u32], firsts: &mut [u32], nexts: &mut [u32])
     requires keys { spec.AreKeys keys.now firsts.old }
     requires begun { spec.AreChainsFrom (length keys.now) keys.now firsts.old nexts.old }

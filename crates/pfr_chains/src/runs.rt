@@ -34,7 +34,7 @@ fn mark_ends(begins: &[bool], ends: &mut [u32])
     }
 }
 
-/// For each place where the run ends in which it stands: the next place at which a new one begins, or the list's length.
+/// For each place the end of its run: the next place at which a new run begins, or the list's length.
 /// `begins[place]` says whether a run begins at a place.
 pub fn run_ends(alloc: Global, begins: &[bool]) -> Result<Vec<u32>, AllocError>
     requires few { length begins.now ≤ 4294967295 }

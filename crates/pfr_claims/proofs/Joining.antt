@@ -21,7 +21,7 @@ Rises pass = IsStrictlyIncreasing pass.drawn
 pub lists_rise : (passes : List Held) → All Rises passes → All IsStrictlyIncreasing (lists_of passes)
 lists_rise passes rise = All-map IsStrictlyIncreasing (λ pass. pass.drawn) passes rise
 
--- where a loop has gone over all passes but the one that was popped first, those are all
+-- once a loop has gone over all passes but the one that was popped first, those and that one are all passes
 pub all_joined : (passes others iterated yielded left : List Held) (last : Held) → passes ≡ others ++ last ∷ [] → iterated ≡ others → yielded ++ left ≡ iterated → length left ≡ 0 → passes ≡ yielded ++ last ∷ []
 all_joined passes others iterated yielded left last popped same split done =
     let none : left ≡ [] = nil_from_length left done in

@@ -29,7 +29,7 @@ pub total_snoc : (of : SeatView → ℕ) (views : List SeatView) (v : SeatView) 
 total_snoc of [] v = omega arith
 total_snoc of (x ∷ xs) v = let rest = total_snoc of xs v in omega arith
 
--- where views with no whole have no part, and there is no whole, there is no part
+-- if views with no whole have no part, and there is no whole, there is no part
 total_none : (whole part : SeatView → ℕ) (views : List SeatView) → total whole views ≡ 0 → ((seat : ℕ) (w : SeatView) → get_elem? views seat ≡ some w → whole w ≡ 0 → part w ≡ 0) → total part views ≡ 0
 total_none whole part [] none idle = refl
 total_none whole part (x ∷ xs) none idle =
@@ -37,7 +37,7 @@ total_none whole part (x ∷ xs) none idle =
     let rest : total part xs ≡ 0 = total_none whole part xs (omega arith) (λ seat w at. idle (suc seat) w at) in
     omega arith
 
--- the same, where one view has the whole: it has every part
+-- the same, if one view has the whole: it has every part
 pub total_alone : (whole part : SeatView → ℕ) (views : List SeatView) (seat : ℕ) (v : SeatView) → get_elem? views seat ≡ some v → total whole views ≡ whole v
     → ((other : ℕ) (w : SeatView) → get_elem? views other ≡ some w → whole w ≡ 0 → part w ≡ 0) → total part views ≡ part v
 total_alone whole part [] seat v at all idle = absurd (some-ne-none v (sym at))

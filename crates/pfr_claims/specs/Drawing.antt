@@ -37,7 +37,7 @@ pub record Drawn (sizes : Sizes) (state : State (Unit {0}) SeatView) : Type 0 wh
 
 -- ---- the steps
 
--- a live pass draws a number, and ends where that is at or above the count
+-- a live pass draws a number, and ends if that is at or above the count
 abbrev pub drew : ℕ → SeatView → SeatView
 drew number view =
     knows view.sizes (view.drawn ++ number ∷ []) (if nat_lt number view.sizes.count then 1 else 0) (if nat_lt number view.sizes.count then 0 else 1)
@@ -47,7 +47,8 @@ abbrev pub Draws : Step (Unit {0}) → Me (Unit {0}) SeatView → ℕ → Me (Un
 Draws step before number after =
     (after ≡ (drew number before.0, before.1)) × All (λ earlier. earlier < number) before.0.drawn × IsStrictlyIncreasing (before.0.drawn ++ number ∷ [])
 
--- whoever stands for all passes, each ended, finds the word past the count by their number, and has drawn each number below it once
+-- a seat that stands for all passes, each ended, finds the word past the count by the number of passes, and has drawn
+-- each number below the word once
 abbrev pub Closes : Step (Unit {0}) → Me (Unit {0}) SeatView → ℕ → Me (Unit {0}) SeatView → Type 0
 Closes step before word after =
     (after ≡ before) × (word ≡ before.0.sizes.count + before.0.sizes.workers) × ((number : ℕ) → times number before.0.drawn ≡ once_below number word)
@@ -65,6 +66,6 @@ pass_of view = knows view.sizes [] 1 0
 abbrev pub both : SeatView → SeatView → SeatView
 both view other = knows view.sizes (view.drawn ++ other.drawn) (view.live + other.live) (view.ended + other.ended)
 
--- what the other is left with
+-- what the other view is left with
 abbrev pub spent : SeatView
 spent = knows (record { count = 0; workers = 0 }) [] 0 0

@@ -12,7 +12,7 @@ use crate::rule::{Close, Collect, SeatView, Sizes};
 use atomic_table::Seat;
 use std::snapshot::Snapshot;
 
-/// All passes of a batch, ended, and where the word stood then. In each pass's list the numbers rise, and all lists
+/// All passes of a batch, ended, and the word's value then. In each pass's list the numbers rise, and all lists
 /// together are the numbers below the word, each once.
 #[derive(Drop)]
 pub struct Gathered {

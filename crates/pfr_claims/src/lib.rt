@@ -1,4 +1,5 @@
-//! Workers draw the numbers of a batch, from 0, each number by exactly one worker.
+//! Workers draw the numbers of a batch, from 0, each number by exactly one worker. A helper of `pfr_workers` and
+//! `pfr_work`.
 //!
 //! A batch has a count of packets and a pass for each worker. A worker claims the next number with its pass until the pass
 //! ends, at its first number at or above the count. All ended passes together tell what was drawn: each number below the

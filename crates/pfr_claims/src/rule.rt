@@ -39,7 +39,7 @@ impl Play<(), SeatView> for Draw {
     ghost then = { Draws };
 }
 
-/// The step that finds where the word stands once all passes have ended.
+/// The step that finds the word's value once all passes have ended.
 pub struct Close;
 
 impl Play<(), SeatView> for Close {

@@ -13,7 +13,7 @@ pub struct Connection<S: OpenStream + Drop> {
 impl<S: OpenStream + Drop> Drop for Connection<S> {
     fn drop(self) {
         let Connection { stream } = self;
-        // Where this fails, the connection is gone already.
+        // If this fails, the connection is gone already.
         let _ = stream.shutdown(Shutdown::Write);
     }
 }

@@ -29,7 +29,8 @@ type OutputSink<R, O> = WriterSink<
     Destination<<R as Files>::File, O, Connection<<R as Net>::Stream>>,
 >;
 
-/// Replays captures through a ruleset, and answers the status. If warnings are asked for, `err` is told why a file wasn't opened.
+/// Replays captures through a ruleset, and answers the status. If the words ask for warnings, `err` is told why a file
+/// wasn't opened.
 pub fn replay<
     'a,
     R: Files + Net + AllocGlobal + Threads + Wait + Sync,

@@ -141,7 +141,7 @@ outcome_leads old new out out' frame clock outcome begun purged_telling told lef
               tells.origin_is at.origin_is both.0.closed (ap (λ (t : Texts). t.messages) is) messages_are),
         )
 
--- a book that holds the same stands where the other one does
+-- a book that holds the same as another one stands at the same world
 restand : (book other : Book) (world : World) → world_in other ≡ world_in book → other.telling ≡ book.telling → other.job ≡ book.job → StandsAt book world → StandsAt other world
 restand book other world left telling job at = record {
   left = left ∙ at.left;

@@ -11,7 +11,7 @@ use Rattle.pfr_commit.specs.Runs.{RuleKind, Taken, capped, counters_of, filter_r
 use Rattle.pfr_commit.specs.World.{Frame, World, after, opening, world_of}
 use Rattle.pfr_commit.proofs.CountLemmas.{evaluations_of_run}
 
--- where a number is in a list at most once, it is there once or not at all
+-- if a number is in a list at most once, it is there once or not at all
 once : (rule : ℕ) (visits : List ℕ) → count_by (λ visited. visited == rule) visits ≤ 1 → count_by (λ visited. visited == rule) visits ≡ cond (list_any (λ visited. visited == rule) visits) 1 0
 once rule [] few = refl
 once rule (visit ∷ visits) few =

@@ -54,8 +54,8 @@ pub record StandsAt (book : Book) (world : World) : Type 0 where
   pub tells : Tells book.telling.queue world.clock world.events
   pub told : AreTold world.count world.clock world.table.states world.events
 
--- From whatever world a book stood at it comes to the next one. If what was emitted followed some texts, and was with them what is
--- written, then that is so after it too.
+-- From whatever world a book stood at, it comes to the next one. If some texts and what was emitted behind them were
+-- what is written of the world, they are so of the next world too.
 abbrev pub LeadsTo : (old new : Book) → (out out' : Emitted) → (World → World) → Type 0
 LeadsTo old new out out' next =
     (world : World) (before : Texts) → StandsAt old world → online (job_of old) world ≡ joined before (texts_of out)
@@ -98,7 +98,8 @@ after_outcome book packet clock outcome = λ world. with_outcome (job_of book) w
 abbrev pub outcome_in : Book → ℕ → Clock → InterfacePlace → View → Outcome
 outcome_in book number clock place view = step_of (job_of book) number clock place view book.table
 
--- a change of the table is one that the next packet of a book makes, with this record, where it comes to an outcome at a clock
+-- a change of the table is one that the next packet of a book makes, with this record, if it comes to an outcome at a
+-- clock
 abbrev pub IsNextChangeOf : Book → Record → Clock → Outcome → TableChange → Type 0
 IsNextChangeOf book packet clock outcome = IsOwnChange (book.count + 1) clock (frame_of packet).place (purged clock book.table.states) outcome
 
@@ -123,7 +124,7 @@ MayUseNext speculation book packet view = MayUseIn speculation book (book.count 
 
 -- ---- a batch
 
--- of the results of the world's next packet, which has this record and this view, the first one holds
+-- the first result of the world's next packet, which has this record and this view, holds
 abbrev pub IsUsed : RunJob → World → List Speculation → Record × View → Type 0
 IsUsed job world results packet = MayUse (find (is_of (world.count + 1)) results) job (world.count + 1) (clock_at world.clock (frame_of packet.0)) (frame_of packet.0).place packet.1 world.table
 
@@ -131,7 +132,7 @@ IsUsed job world results packet = MayUse (find (is_of (world.count + 1)) results
 abbrev pub RisesUnless : Type 0 → ℕ → ℕ → Type 0
 RisesUnless Used before next = (Used → next ≡ before) × ((Used → ⊥) → next ≡ before + 1)
 
--- a number rises by one at each packet of which the first result isn't used; the packets follow a world
+-- a number rises by one at each packet whose first result isn't used; the packets follow a world
 abbrev pub RisesOver : RunJob → World → List Speculation → List (Record × View) → ℕ → ℕ → Type 0
 RisesOver job world results [] before last = last ≡ before
 RisesOver job world results (packet ∷ packets) before last =
@@ -145,7 +146,7 @@ frames_of packets = map (λ packet. frame_of packet.0) packets
 abbrev pub after_packets : Book → List (Record × View) → World → World
 after_packets book packets = λ world. world_after (job_of book) world (frames_of packets)
 
--- a world that has come to a count of packets, of these
+-- a world after as many of these packets as bring it to a count
 abbrev pub world_up_to : RunJob → World → ℕ → List Frame → World
 world_up_to job world count frames = world_after job world (take (count - world.count) frames)
 
@@ -162,8 +163,9 @@ LeavesTexts old count out out' frames =
     (world : World) (before : Texts) → StandsAt old world → online (job_of old) world ≡ joined before (texts_of out)
     → online (job_of old) (world_up_to (job_of old) world count frames) ≡ joined before (texts_of out')
 
--- A book took all packets of a batch, whatever results it was given. It comes from whatever world it stood at to the one after them, and
--- what they add follows what was emitted. It evaluated those packets itself of which the first result didn't hold.
+-- A book took all packets of a batch, whatever results it was given. It comes from whatever world it stood at to the
+-- one after them, and what they add follows what was emitted. It evaluated itself the packets whose first result didn't
+-- hold.
 pub record TakesAll (old new : Book) (out out' : Emitted) (packets : List (Record × View)) (results : List Speculation) : Type 0 where
   pub world : AddsLines old new out out' (after_packets old packets)
   pub told : LeadsTo old new out out' (after_packets old packets)
@@ -172,7 +174,8 @@ pub record TakesAll (old new : Book) (out out' : Emitted) (packets : List (Recor
   pub own : RisesOver (job_of old) (world_with old out) results packets old.own new.own
   pub is_open : (old.is_over ≡ false) × (new.is_over ≡ false)
 
--- memory was refused after some of them: what was emitted grew by what these add, and the counts rose as over these
+-- memory was refused after some packets: what was emitted grew by what these packets add, and the counts rose as over
+-- these
 pub record TakesSome (old new : Book) (out out' : Emitted) (packets : List (Record × View)) (results : List Speculation) : Type 0 where
   pub lines : lines_of out' ≡ written (world_up_to (job_of old) (world_with old out) new.count (frames_of packets))
   pub told : LeavesTexts old new.count out out' (frames_of packets)

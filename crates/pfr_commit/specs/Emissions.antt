@@ -20,7 +20,7 @@ use Rattle.pfr_commit.specs.World.{ByPlace, Frame, Texts, apply_by, with_bytes, 
 abbrev pub frame_of : Record → Frame
 frame_of r = record { place = record { 0 = r.place }; link = r.link; seconds = r.seconds; header = r.header; bytes = r.bytes.items }
 
--- texts by place, of which there are none behind the last one of a list
+-- texts by place; there are none behind the last one of a list
 abbrev pub by_place : List (List ℕ) → ByPlace
 by_place texts = λ place. get_or texts place []
 

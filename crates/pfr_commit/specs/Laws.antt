@@ -140,7 +140,7 @@ StatesAreOfPackets =
     → Contains (world_of job frames).table.states state
     → IsMadeAmong job.rules (taken_in job frames) state
 
--- of a rule with `max` there are never more states than it says
+-- a rule with `max` never has more states than that
 abbrev pub RulesKeepToTheirMax : Type 0
 RulesKeepToTheirMax =
     (job : RunJob) (frames : List Frame) (by : RuleNumber) (rule : FlatRule) (most : ℕ)
@@ -148,13 +148,14 @@ RulesKeepToTheirMax =
     → most_of rule.state ≡ Some most
     → count_of_rule by.0 (world_of job frames).table.states ≤ most
 
--- what packets did to the table makes it of the empty one
+-- the changes that packets made to the table make it from the empty one
 abbrev pub ChangesMakeTheTable : Type 0
 ChangesMakeTheTable =
     (job : RunJob) (frames : List Frame)
     → table_of job.rules.options.state_limit (world_of job frames).changes ≡ (world_of job frames).table
 
--- who applies the messages of a run holds the numbers of the states that are left, except those of rules with `no-sync`, and no others
+-- a standby that applies the messages of a run holds the numbers of the states that are left, except those of rules
+-- with `no-sync`, and no others
 abbrev pub AStandbyHoldsTheStates : Type 0
 AStandbyHoldsTheStates =
     (job : RunJob) (frames : List Frame) (n : ℕ)

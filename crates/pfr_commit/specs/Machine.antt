@@ -1,5 +1,6 @@
--- The speculative machine. Packets are opened in batches. Workers claim packets of a batch by its word and evaluate them ahead, each on
--- the states after those commits that it sees. One committer takes the packets in their order, each with a speculation or without.
+-- The speculative machine. Packets are opened in batches. Workers claim packets of a batch by its word and evaluate
+-- them ahead, each on the states after those commits that it sees. One committer takes the packets in their order, each
+-- with a speculation or without.
 use Rattle.std.specs.Prelude.{◌≡◌, ◌⊎◌, ◌≤◌, ◌<◌, ◌+◌, ◌==◌, ℕ, if◌then◌else◌, List, [], ◌∷◌, ◌++◌, length, slice_set, take, Option, Some, None}
 use Rattle.std.specs.List.{All, Contains, slice_get}
 use Rattle.pfr_net.specs.declared.interface.InterfacePlace.{InterfacePlace}
@@ -18,7 +19,7 @@ use Rattle.pfr_commit.specs.World.{Frame, Texts, World, clock_at, joined, no_tex
 
 -- ---- speculations
 
--- what was found out ahead about a packet, with the answers that it rests on
+-- what was found out ahead about a packet, with the answers that it depends on
 pub record Guess : Type 0 where
   pub job : RunJob
   pub number : ℕ
@@ -41,7 +42,8 @@ pub record Applies (guess : Guess) (job : RunJob) (number : ℕ) (clock : Clock)
   pub view_is : guess.view ≡ view
   pub agrees : Agrees (purged_at clock table) guess.answers
 
--- it is what an evaluation of this packet over a table gives: its outcome, and the table's answers to all that was asked
+-- it is what an evaluation of this packet over a table gives: its outcome, and the table's answers to all that was
+-- asked
 pub record IsEvaluation (guess : Guess) (job : RunJob) (number : ℕ) (clock : Clock) (place : InterfacePlace) (view : View) (table : StateTable) : Type 0 where
   pub applies : Applies guess job number clock place view table
   pub outcome_is : guess.outcome ≡ step_of job number clock place view table
@@ -98,7 +100,8 @@ pub data Event : Type 0 where
   claim : ℕ → ℕ → Event
   -- a worker sees this number of commits
   enter : ℕ → ℕ → Event
-  -- the batch at a place, a worker, the place of a packet in the batch, and what the worker has found out about the packet
+  -- the batch at a place, a worker, the place of a packet in the batch, and what the worker has found out about the
+  -- packet
   answer : ℕ → ℕ → ℕ → Guess → Event
   -- any sound speculation
   stranger : Guess → Event
@@ -131,7 +134,7 @@ pub record Answers (job : RunJob) (packets : List Frame) (old : Machine) (place 
   pub table_is : slice_get old.tables (old.sees worker) ≡ Some table
   pub evaluated : IsEvaluation guess job (batch.first + index + 1) (clock_at (world_of job (take (batch.first + index) packets)).clock frame) frame.place (view_of frame.link frame.bytes) table
 
--- a packet's outcome is that of a speculation on the way, if it applies, and else that of its evaluation here
+-- a packet's outcome is that of a speculation on the way, if it applies, and otherwise that of its evaluation here
 abbrev pub Takes : RunJob → List Guess → Option Guess → ℕ → Clock → InterfacePlace → View → StateTable → Outcome → Type 0
 Takes job way None number clock place view table outcome = outcome ≡ step_of job number clock place view table
 Takes job way (Some guess) number clock place view table outcome =
@@ -139,8 +142,8 @@ Takes job way (Some guess) number clock place view table outcome =
     × ((Applies guess job number clock place view table × (outcome ≡ guess.outcome))
     ⊎ ((Applies guess job number clock place view table → ⊥) × (outcome ≡ step_of job number clock place view table)))
 
--- what a packet that comes to an outcome at a clock adds to what is written of a world: its line, its record if it isn't blocked, and
--- the messages that no longer may go on
+-- what a packet that comes to an outcome at a clock adds to what is written of a world: its line, its record if it
+-- isn't blocked, and the messages that can't go on any more
 pub record Emits (job : RunJob) (world : World) (frame : Frame) (clock : Clock) (outcome : Outcome) (added : Texts) : Type 0 where
   pub verdicts_are : added.verdicts ≡ verdict_line job.rules.interfaces (world.count + 1) clock frame.place outcome
   pub packets_are : added.packets ≡ only_at frame.place.0 (packet_text frame outcome)
@@ -187,8 +190,8 @@ RunsTo job packets old (event ∷ events) new = (between : Machine) × Moves job
 
 -- ---- every run
 
--- After every list of events the world is that of the packets that are committed, taken one by one, and what was emitted is what is
--- written of it.
+-- After every list of events the world is that of the committed packets, taken one by one, and what was emitted is what
+-- is written of that world.
 abbrev pub EveryRun : Type 0
 EveryRun =
     (job : RunJob) (packets : List Frame) (events : List Event) (machine : Machine)

@@ -25,11 +25,12 @@ Places = List (Option (Bor Speculation))
 abbrev pub held_at : Places → ℕ → Option Speculation
 held_at places place = option_map (λ found. found.now) (get_or places place None)
 
--- at each place is the first result of its packet, if there is one; `first` is the number of the packet at the first place
+-- at each place is the first result of its packet, if there is one; `first` is the number of the packet at the first
+-- place
 abbrev pub ArePlaced : List Speculation → ℕ → Places → Type 0
 ArePlaced results first places = (place : ℕ) → place < length places → held_at places place ≡ find (is_of (first + place)) results
 
--- there is such a place, with nothing in it
+-- a place exists and is empty
 abbrev pub is_free : Places → ℕ → Bool
 is_free places place = nat_lt place (length places) && is_none (get_or places place None)
 
@@ -38,7 +39,7 @@ abbrev pub with_result : Option Speculation → ℕ → Speculation → Option S
 with_result None number found = if is_of number found then Some found else None
 with_result (Some earlier) number found = Some earlier
 
--- a result goes to its packet's place, unless there is one before it
+-- a result goes to its packet's place, unless one is there already
 abbrev pub Puts : ℕ → Speculation → (old new : Places) → Type 0
 Puts first found old new = (place : ℕ) → place < length old → held_at new place ≡ with_result (held_at old place) (first + place) found
 

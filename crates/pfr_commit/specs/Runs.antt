@@ -56,11 +56,11 @@ taken_in job frames = taken_after job (opening job) frames
 abbrev pub line_of : RunJob → Taken → List ℕ
 line_of job packet = verdict_line job.rules.interfaces packet.number packet.clock packet.frame.place packet.outcome
 
--- its record in the output at a place: that of its interface has it, unless the packet is blocked
+-- its record in the output at a place: only the output of its interface has it, unless the packet is blocked
 abbrev pub record_at : ℕ → Taken → List ℕ
 record_at place packet = only_at packet.frame.place.0 (packet_text packet.frame packet.outcome) place
 
--- the same, and the line of a state, where nothing names an interface
+-- the line and the record of a packet, and the line of a state, if nothing names an interface
 abbrev pub plain_line : Taken → List ℕ
 plain_line packet = verdict_before packet.number packet.clock packet.outcome (10 ∷ [])
 
@@ -72,8 +72,8 @@ plain_state state = keys_part state ++ (ends_part state ++ traffic_before state 
 
 -- ---- what they leave
 
--- One of these packets made the state: it passed at the state's clock on the state's interface, has its number and names it. The state
--- keeps the rules on its line, and is bound as they say.
+-- One of these packets made the state: it passed at the state's clock on the state's interface, has its number and
+-- names it. The state keeps the rules on its line, and is bound as they say.
 pub record IsMadeAmong (rules : Ruleset) (packets : List Taken) (state : State) : Type 0 where
   pub packet : Taken
   pub is_there : Contains packets packet
@@ -135,7 +135,7 @@ named_by translation_rule outcome = outcome.translation
 abbrev pub counts_for : RuleKind → ℕ → Taken → Bool
 counts_for kind rule packet = reason_counts packet.outcome.reason && names_rule rule (named_by kind packet.outcome)
 
--- the total length of an IPv4 packet; what is none, or was cut, has none
+-- the total length of an IPv4 packet; 0 if the frame isn't one, or was cut
 abbrev pub total_length_of : View → ℕ
 total_length_of (Ipv4 packet) = packet.total_length
 total_length_of _ = 0

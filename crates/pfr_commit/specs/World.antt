@@ -29,8 +29,8 @@ use Rattle.pfr_commit.specs.declared.counters.Counters.{Counters}
 use Rattle.pfr_commit.specs.Counters.{counted, nothing_counted}
 use Rattle.pfr_commit.specs.Lines.{verdict_line}
 
--- a packet as its capture has it: the interface on which it was captured, the link type, the seconds, the 16 bytes of the record's
--- header, the captured bytes
+-- a packet as its capture has it: the interface on which it was captured, the link type, the seconds, the 16 bytes of
+-- the record's header, the captured bytes
 pub record Frame : Type 0 where
   pub place : InterfacePlace
   pub link : ℕ
@@ -62,7 +62,8 @@ pub record World : Type 0 where
   -- the states that they left
   pub table : StateTable
   pub counters : Counters
-  -- the verdict lines, and the passed packets of each interface, which its output has after the header of its capture
+  -- the verdict lines, and the passed packets of each interface, which stand in its output after the header of its
+  -- capture
   pub verdicts : List ℕ
   pub packets : ByPlace
   -- what they did to the table
@@ -84,11 +85,11 @@ with_bytes link (Some change) bytes = rewritten link change bytes
 unfoldable pub packet_text : Frame → Outcome → List ℕ
 packet_text frame outcome = if is_written outcome.verdict then frame.header ++ with_bytes frame.link outcome.bytes frame.bytes else []
 
--- the packets of each interface, with that of this packet behind those of its own
+-- the packets of each interface, with this packet behind those of its own interface
 abbrev pub with_packet : Frame → Outcome → ByPlace → ByPlace
 with_packet frame outcome texts = each_joined texts (only_at frame.place.0 (packet_text frame outcome))
 
--- a purge, if a state goes by it
+-- a purge, if it removes a state
 abbrev pub purge_by : Clock → Option State → List tables.Change
 purge_by clock None = []
 purge_by clock (Some state) = Purge clock ∷ []
@@ -102,7 +103,7 @@ apply_by (Some change) = Apply change ∷ []
 abbrev pub changes_of : Clock → Option TableChange → List State → List tables.Change
 changes_of clock change states = purge_by clock (due clock states) ++ apply_by change
 
--- the next packet came to an outcome at a clock
+-- a world after its next packet came to an outcome at a clock
 unfoldable pub with_outcome : RunJob → World → Frame → Clock → Outcome → World
 with_outcome job world frame clock outcome = record {
   count = world.count + 1;
@@ -115,7 +116,7 @@ with_outcome job world frame clock outcome = record {
   events = world.events ++ events_of clock outcome.change world.table.states;
 }
 
--- a world, and then one packet
+-- a world after one packet more
 unfoldable pub after : RunJob → World → Frame → World
 after job world frame =
     with_outcome job world frame (clock_at world.clock frame)
@@ -123,7 +124,7 @@ after job world frame =
 
 -- ---- a run
 
--- before its first packet
+-- the world before the first packet
 unfoldable pub opening : RunJob → World
 opening job = record {
   count = 0;
@@ -136,7 +137,7 @@ opening job = record {
   events = [];
 }
 
--- after these packets, which follow others
+-- a world after these packets more
 unfoldable pub world_after : RunJob → World → List Frame → World
 world_after job world frames = fold (after job) world frames
 
@@ -148,7 +149,8 @@ world_of job frames = world_after job (opening job) frames
 abbrev pub names_of : List Interface → List IfName
 names_of interfaces = map (λ interface. interface.name) interfaces
 
--- who tells a standby: the interfaces, the checksum of the ruleset's text, and the number of the firewall (pf.conf(5), "set hostid")
+-- who tells a standby: the interfaces, the checksum of the ruleset's text, and the number of the firewall (pf.conf(5),
+-- "set hostid")
 abbrev pub origin_of : RunJob → Origin
 origin_of job = record { interfaces = plain_names (names_of job.interfaces); checksum = checksum_of job.text; creator = job.rules.options.host_id }
 
@@ -158,7 +160,7 @@ pub record Texts : Type 0 where
   pub packets : ByPlace
   pub messages : List Content
 
--- what is written by then: of the events all messages but that of a part that may go on at the clock
+-- what is written by then: of the events all messages but the one of the part that may go on at the clock
 abbrev pub online : RunJob → World → Texts
 online job world = record { verdicts = world.verdicts; packets = world.packets; messages = closed_at (origin_of job) world.clock world.events }
 

@@ -20,8 +20,8 @@ impl Book {
     ghost use Rattle.pfr_commit.specs.ResultsByPlace.{IsOfJob};
     ghost use Rattle.pfr_commit.specs.Results.{results_of};
 
-    /// The places of the states by which the first of these packets go, if it pays to look ahead. An evaluation looks there first,
-    /// and so does the check of a result; nothing rests on it.
+    /// The places of the states of the first `AHEAD` packets, if it pays to look ahead. An evaluation looks there
+    /// first, and so does the check of a result; nothing depends on it.
     fn look_ahead(&self, packets: &[(Record, View)]) -> [Option<Place>; AHEAD] {
         if !self.table.is_large() {
             return [None; AHEAD];
@@ -33,7 +33,7 @@ impl Book {
         self.table.look_ahead(&lookups)
     }
 
-    /// What both calls of a batch do. The results may be known to be of the book's own job.
+    /// What the three calls of a batch do. `are_of_job` says that all results are of the book's own job.
     fn take_batch<G: Gate>(
         &mut self,
         packets: &[(Record, View)],
@@ -85,12 +85,12 @@ impl Book {
         Ok(())
     }
 
-    /// Takes the next packets, and appends what they add to what was emitted, and what they do to the table if `out` has a list for
-    /// that. Each packet has its record's view.
+    /// Takes the next packets, and appends what they add to `out`, and what they do to the table if `out` has a list
+    /// for that. Each packet has its record's view.
     ///
-    /// The results may be in any order; some may be missing, and some of other packets or other jobs. Of several of one packet the
-    /// first is tried; if it doesn't hold, or there is none, the packet is evaluated here. If memory is refused, what was emitted
-    /// grows by what the packets add that were taken.
+    /// The results may be in any order; some may be missing, and some of other packets or other jobs. If a packet has
+    /// several results, the first is tried; if it doesn't hold, or there is none, the packet is evaluated here. If
+    /// memory is refused, `out` grows by what the packets taken so far add.
     pub fn commit_batch(
         &mut self,
         packets: &[(Record, View)],
@@ -107,8 +107,8 @@ impl Book {
         self.take_batch(packets, &[results], false, &Unwatched, out)
     }
 
-    /// What [`Book::commit_batch`] does without results. A gate is told what each packet came to, and of no turn: none is evaluated
-    /// anywhere else.
+    /// What [`Book::commit_batch`] does without results. The gate is told what each packet came to, but of no turn: no
+    /// packet is evaluated anywhere else.
     pub fn commit_batch_alone<G: Gate>(
         &mut self,
         packets: &[(Record, View)],
@@ -125,8 +125,9 @@ impl Book {
         self.take_batch(packets, &[], false, &OutcomesAlone(gate), out)
     }
 
-    /// What [`Book::commit_batch`] does, with results that come in groups and are known to be of the book's own job: the job's
-    /// text isn't compared with theirs. A gate is told of each packet before it is evaluated here, and what each came to.
+    /// What [`Book::commit_batch`] does, with results that come in groups and must be of the book's own job: the job's
+    /// text isn't compared with theirs. The gate is told of each packet before it is evaluated here, and what each
+    /// packet came to.
     pub fn commit_batch_of_job<G: Gate>(
         &mut self,
         packets: &[(Record, View)],

@@ -32,8 +32,9 @@ use pfr_track::{Clock, InterfacePlace};
 use std::alloc::{AllocError, Global};
 use std::sync::Arc;
 
-/// Takes the packets of a run in the order of the capture, one after the other, each with a speculation or without. It has the
-/// states and counters that the packets so far have left, and what the open message tells, and not what they have emitted.
+/// Takes the packets of a run in the order of the capture, one after the other, each with a speculation or without. It
+/// holds the states and counters that the packets so far have left, and what the open message tells. It doesn't hold
+/// what they have emitted.
 ///
 /// After memory was refused each call is refused, and the book stays as it is.
 #[derive(Drop)]
@@ -43,7 +44,7 @@ pub struct Book {
     /// How many packets it has taken, and how many of them it has evaluated itself.
     pub(crate) count: u64,
     pub(crate) own: u64,
-    /// How many rules were asked about these packets. Nothing rests on it.
+    /// How many rules were tested on these packets. Nothing depends on it.
     asked: u64,
     pub(crate) clock: Clock,
     pub(crate) table: Table,
@@ -54,8 +55,8 @@ pub struct Book {
     ghost few: { own ≤ count },
 }
 
-/// What came of a packet: its outcome, if a speculation holds; how many packets were evaluated here, none or one; and a place at
-/// which its state may stand.
+/// What came of a packet: its outcome, if a speculation holds; how many packets were evaluated here, none or one; and a
+/// place at which its state may stand.
 #[derive(Clone, Copy)]
 struct Evaluated<'r> {
     held: Option<&'r Outcome>,
@@ -70,7 +71,7 @@ fn later(clock: Clock, seconds: u32) -> Clock
     Clock(clock.0.max(seconds))
 }
 
-/// How many rules were asked about a packet.
+/// How many rules were tested on a packet.
 fn asked_for(outcome: &Outcome) -> u64 {
     let translation = outcome.visited.translation.asked();
     outcome.visited.filter.asked().saturating_add(translation)
@@ -138,8 +139,8 @@ impl Book {
         self.own
     }
 
-    /// How many rules were asked about the packets that it has taken in all, those of the filter and of translation, at most
-    /// 2^64 - 1. A visited rule that is passed over isn't counted. Nothing depends on it: it tells what the packets cost.
+    /// How many rules were tested on all packets taken so far, those of the filter and of translation, at most 2^64 -
+    /// 1. A visited rule that is passed over isn't counted. Nothing depends on it: it tells what the packets cost.
     pub fn asked(&self) -> u64 {
         self.asked
     }
@@ -165,8 +166,8 @@ impl Book {
         &self.table
     }
 
-    /// The outcome of the speculation at a place, if it may be used for a packet. The state by which the packet goes may stand at
-    /// the place of the hint.
+    /// The outcome of the speculation at `place`, if it may be used for a packet. `hint` is a place at which the
+    /// packet's state may stand.
     fn usable_outcome<'r>(
         &self,
         number: u64,
@@ -195,8 +196,8 @@ impl Book {
         )
     }
 
-    /// Evaluates a packet, and writes what it comes to over a fresh outcome. The state by which the packet goes may stand at the place
-    /// of the hint. The result is the place of the state that was found for it, if one was.
+    /// Evaluates a packet, and writes what it comes to into `outcome`, which must be fresh. `hint` is a place at which
+    /// the packet's state may stand. The result is the place of the state that was found for the packet, if one was.
     #[tactic(auto, unfolding(pfr_packet::specs::Steps::step_of))]
     fn run(
         &self,
@@ -229,8 +230,8 @@ impl Book {
         Ok(answers.found)
     }
 
-    /// What a packet comes to: by the speculation at a place, or evaluated here and written over a fresh outcome. The state by which
-    /// the packet goes may stand at the place of the hint.
+    /// What a packet comes to: by the speculation at `place`, or evaluated here and written into `here`, which must be
+    /// fresh. `hint` is a place at which the packet's state may stand.
     fn evaluate<'r, G: Gate>(
         &self,
         number: u64,
@@ -270,8 +271,8 @@ impl Book {
         })
     }
 
-    /// Takes over what the next packet came to at a clock, and appends what it adds to what was emitted. If memory is refused, what
-    /// was emitted stays as it was. The state that the packet touches may stand at a place.
+    /// Takes over what the next packet came to at `clock`, and appends what the packet adds to `out`. If memory is
+    /// refused, `out` stays as it was. `place` is one at which the state that the packet touches may stand.
     fn take_outcome(
         &mut self,
         clock: Clock,
@@ -315,8 +316,8 @@ impl Book {
         Ok(())
     }
 
-    /// Takes the next packet, with the speculation at a place, and appends what it adds to what was emitted. If memory is refused,
-    /// what was emitted stays as it was. The state by which the packet goes may stand at the place of the hint.
+    /// Takes the next packet, with the speculation at `place`, and appends what the packet adds to `out`. If memory is
+    /// refused, `out` stays as it was. `hint` is a place at which the packet's state may stand.
     pub(crate) fn take<G: Gate>(
         &mut self,
         packet: &Record,
@@ -345,7 +346,7 @@ impl Book {
         self.is_over = true;
         let number = self.count + 1;
         let clock = later(self.clock, packet.seconds);
-        // what is asked of the table at this clock is answered at once then
+        // from here on the table answers questions at this clock at once
         self.table.settle(clock);
         let mut here = Outcome::new(self.alloc);
         let Evaluated {
@@ -364,11 +365,11 @@ impl Book {
             &mut here,
         )?;
         let outcome = held.unwrap_or(&here);
-        // what `take_outcome` requires of an outcome holds of each that an evaluation has
+        // each outcome of an evaluation meets what `take_outcome` requires
         no_change_is_refused();
         every_change_is_of_the_named_state();
         what_is_written_is_of_the_packet();
-        // whatever the table is asked, its states are those of a table
+        // any call of the table shows that its states are those of a table
         let _ = self.table.len();
         self.take_outcome(clock, packet, view, outcome, found, out)?;
         gate.taken(packet, view, outcome);
@@ -377,9 +378,9 @@ impl Book {
         Ok(())
     }
 
-    /// Takes the next packet, with a speculation of it or without, and answers what it adds to the outputs, and what it did to
-    /// the table. The view must be the record's. A speculation that isn't of just this packet at its clock under the book's
-    /// job, or whose record doesn't hold in the table, is dropped, and the packet is evaluated here.
+    /// Takes the next packet, with a speculation of it or without, and answers what it adds to the outputs, and what it
+    /// did to the table. The view must be the record's. A speculation is dropped if it is of another packet, clock or
+    /// job, or if its record doesn't hold in the table. Then the packet is evaluated here.
     pub fn commit(
         &mut self,
         packet: &Record,

@@ -7,7 +7,7 @@ use pfr_states::{Change, KnownChange, TableChange};
 use pfr_track::Clock;
 use std::alloc::AllocError;
 
-/// What packets did to the table of states, one change after the other. A purge is here only if a state goes by it.
+/// What packets did to the table of states, one change after the other. A purge is here only if it removes a state.
 #[derive(Drop)]
 pub enum Changes {
     /// Each change.
@@ -62,7 +62,7 @@ impl Changes {
         Ok(())
     }
 
-    /// Appends what the table takes over. If memory is refused nothing changes.
+    /// Appends a change that the table takes over. If memory is refused nothing changes.
     fn put_apply(&mut self, change: &TableChange) -> Result<(), AllocError>
         ensures done { OnOk result (listed self.new ≡ listed self.old ++ Apply change.now ∷ []) }
         ensures kept { OnErr result (listed self.new ≡ listed self.old) }

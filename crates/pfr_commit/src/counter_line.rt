@@ -83,7 +83,7 @@ impl RuleCounters {
 }
 
 impl Counters {
-    /// Appends the text of the counters after `records` packets to another.
+    /// Appends the text of the counters after `records` packets to `text`.
     #[tactic(auto, unfolding(crate::specs::Endings::counters_text))]
     pub(crate) fn put(
         &self,

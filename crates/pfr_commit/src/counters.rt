@@ -133,7 +133,7 @@ fn length_of(view: &View) -> u64
 }
 
 impl Counters {
-    /// Nothing is counted yet of the rules of the filter and of translation, of which these are the numbers.
+    /// Nothing is counted yet. `rules` has the number of filter rules and the number of translation rules.
     pub(crate) fn new(alloc: Global, rules: (u32, u32)) -> Result<Counters, AllocError>
         ensures { IfOk result (λ counters. counters ≡ spec.nothing_counted rules.0 rules.1) }
     {

@@ -16,8 +16,8 @@ use pfr_sync::Message;
 use pfr_track::Clock;
 use std::alloc::{AllocError, Global};
 
-/// What packets add to the outputs: their verdict lines, the records of those that aren't blocked, and the messages to a standby
-/// that they close. It may also hold what they did to the table of states.
+/// What packets add to the outputs: their verdict lines, the records of those that aren't blocked, and the messages to
+/// a standby that they close. It may also hold what they did to the table of states.
 #[derive(Drop)]
 pub struct Emitted {
     pub verdicts: Vec<u8>,
@@ -28,8 +28,8 @@ pub struct Emitted {
     pub changes: Option<Changes>,
 }
 
-/// Appends what a packet did to the table, if that is requested: a purge, and the packet's change. If memory is refused nothing
-/// changes.
+/// Appends what a packet did to the table, if that is requested: a purge, and the packet's change. If memory is refused
+/// nothing changes.
 fn put_changes(
     changes: &mut Option<Changes>,
     purge: Option<Clock>,
@@ -77,8 +77,8 @@ impl Emitted {
         }
     }
 
-    /// Nothing yet, with room for `verdicts` bytes of verdict lines, and at each place for as many bytes of records as `packets` says.
-    /// If that is refused, room is made as they come. What is done to the table isn't requested.
+    /// Nothing yet, with room for `verdicts` bytes of verdict lines, and for `packets[place]` bytes of records at each
+    /// place. If that is refused, room is made as they come. What is done to the table isn't requested.
     pub fn with_room(alloc: Global, verdicts: usize, packets: &[usize]) -> Emitted
         ensures texts { texts_of result ≡ spec.no_texts }
         ensures changes { result.changes ≡ None }
@@ -102,7 +102,8 @@ impl Emitted {
         cut_changes(&mut self.changes, 0);
     }
 
-    /// The clock of the purge, if a state of the table goes at a clock. If no changes are requested it isn't looked for.
+    /// The clock of the purge, if a purge at `clock` removes a state of the table. If no changes are requested it isn't
+    /// looked for.
     pub(crate) fn purge_at(&self, table: &Table, clock: Clock) -> Option<Clock>
         ensures { OnSome self.now.changes (purges_at result ≡ spec.purge_by clock (due clock table.now.states)) }
     {
@@ -136,8 +137,8 @@ impl Emitted {
         Ok(())
     }
 
-    /// Appends what is written of a packet: its line, its record and the messages that it closed, which it takes. If memory is refused
-    /// nothing changes.
+    /// Appends what is written of a packet: its line, its record and the messages that it closed, which it takes. If
+    /// memory is refused nothing changes.
     fn put_written(
         &mut self,
         line: &VerdictLine<'_>,
@@ -161,8 +162,9 @@ impl Emitted {
         Ok(())
     }
 
-    /// Appends what a packet adds: what is written of it, with the messages that it closed, which it takes, and if that is requested
-    /// what it did to the table, a purge and its own change. If memory is refused nothing changes.
+    /// Appends what a packet adds: its line, its record and the messages that it closed, which it takes. If changes are
+    /// requested, it also appends what the packet did to the table: a purge and its own change. If memory is refused
+    /// nothing changes.
     pub(crate) fn put(
         &mut self,
         line: &VerdictLine<'_>,

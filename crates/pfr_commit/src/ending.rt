@@ -10,8 +10,8 @@ use pfr_states::Table;
 use pfr_sync::Message;
 use std::alloc::{AllocError, Global};
 
-/// The bytes of room for the line of a state: about the length of a TCP connection's, with sequence numbers of ten digits. The system
-/// gives no memory for room that isn't written.
+/// The room for the line of a state, in bytes: about the length of a TCP connection's line whose sequence numbers have
+/// ten digits. The system gives no memory for room that isn't written.
 const USUAL_LINE: usize = 192;
 
 /// What is written at the end of a run.
@@ -59,7 +59,8 @@ fn states_text(
 }
 
 impl Ending {
-    /// The last message, and the texts after `records` packets of a run on these interfaces, which left these counters and states.
+    /// The last message, and the texts after `records` packets of a run on these interfaces, which left these counters
+    /// and states.
     pub(crate) fn new(
         alloc: Global,
         interfaces: &[Interface],

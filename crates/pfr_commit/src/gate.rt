@@ -3,15 +3,16 @@ use pfr_capture::Record;
 use pfr_headers::View;
 use pfr_packet::Outcome;
 
-/// Is told when a worker or the committer turns to a packet, and what it came to. The numbers are those of packets, from 1. A call
-/// may wait: a worker goes on after it. What a gate doesn't care about it need not define.
+/// Is told when a worker or the committer turns to a packet, and what the packet came to. The numbers are those of
+/// packets, from 1. A call may wait: a worker goes on after it. A method that an implementation leaves out does
+/// nothing.
 pub trait Gate: Sync {
     /// A worker has drawn a packet, and evaluates it next. Nobody is told of a packet that is drawn and not evaluated.
     #[inline]
     fn starts(&self, _number: u64) {}
 
-    /// A worker has found out about a packet. It hands that on with what it finds out about its next packets, or when it has drawn its
-    /// last.
+    /// A worker has evaluated a packet. It hands the result on together with those of its next packets, or once it has
+    /// drawn its last packet.
     #[inline]
     fn answered(&self, _number: u64) {}
 
@@ -19,7 +20,7 @@ pub trait Gate: Sync {
     #[inline]
     fn ran_again(&self, _number: u64) {}
 
-    /// The committer has taken a packet, of which this is the view and what it came to. It takes packets one by one, in their order.
+    /// The committer has taken a packet with this view and this outcome. It takes packets one by one, in their order.
     #[inline]
     fn taken(&self, _packet: &Record, _view: &View, _outcome: &Outcome) {}
 }

@@ -21,15 +21,15 @@ pub fn two_parts_are_the_whole()
     ensures { TwoPartsAreTheWhole }
 {}
 
-/// What is written by a packet is a beginning of what is written by a later one: lines, packets and messages. At the end of a run
-/// the last message is all that its messages lack.
+/// What is written up to a packet is a beginning of what is written up to a later one: lines, packets and messages. At
+/// the end of a run the messages that were written lack only the last one.
 pub fn what_is_written_stays()
     ensures stays { WhatIsWrittenStays }
     ensures last { TheLastMessageIsTheRest }
 {}
 
-/// Each packet has one line, in the order of the capture, and the lines are numbered from 1. The packets of an interface
-/// hold the records of those of its packets that aren't blocked, in that order too.
+/// Each packet has one line, in the order of the capture, and the lines are numbered from 1. The output of an interface
+/// has the records of its packets that aren't blocked, in that order too.
 pub fn every_packet_has_its_line()
     ensures frames { (job : RunJob) (frames : List Frame) → map (λ p. p.frame) (taken_in job frames) ≡ frames }
     ensures numbers { (job : RunJob) (frames : List Frame) → map (λ p. p.number) (taken_in job frames) ≡ range_with_len 1 (length frames) }
@@ -37,12 +37,13 @@ pub fn every_packet_has_its_line()
     ensures packets { EachHasItsRecord }
 {}
 
-/// With one capture nothing tells that there could be several: no line names an interface, and all records go to one output.
+/// With one capture nothing tells that there could be several: no line names an interface, and all records go to one
+/// output.
 pub fn one_capture_has_no_marks()
     ensures { OneCaptureHasNoMarks }
 {}
 
-/// And no state is bound elsewhere: every scope meets every binding.
+/// With one capture no state is bound to another interface: every scope meets every binding.
 pub fn one_capture_has_one_scope()
     ensures { OneCaptureHasOneScope }
 {
@@ -71,9 +72,9 @@ pub fn totals_are_the_count()
     ensures together { TotalsAreTheCount }
 {}
 
-/// The packets and bytes of a rule, of the filter or of translation, are those of the packets whose line names the rule for a reason
-/// that counts. Its evaluations are the visits of the walks of all packets over the rules of its kind: the packets whose walk visited
-/// it, if translation rules have numbers of their own, as they have in each ruleset that a text means.
+/// The packets and bytes of a rule, of the filter or of translation, are those of the packets whose line names the rule
+/// for a reason that counts. Its evaluations are the visits to it by the walks of all packets. They are the packets
+/// whose walk visited it, if translation rules have numbers of their own, as in each ruleset that a text means.
 pub fn rules_are_counted_by_their_lines()
     ensures packets { PacketsOfARule }
     ensures bytes { BytesOfARule }
@@ -84,8 +85,8 @@ pub fn rules_are_counted_by_their_lines()
     a_packet_visits_a_rule_once();
 }
 
-/// Each state was made by a packet of the run that passed: it has that packet's number, was made at its clock on its interface, and
-/// keeps the rules on its line.
+/// Each state was made by a packet of the run that passed: it has that packet's number, was made at its clock on its
+/// interface, and keeps the rules on its line.
 pub fn every_state_is_of_a_packet_that_passed()
     ensures { StatesAreOfPackets }
 {
@@ -103,12 +104,12 @@ pub fn every_run_leaves_a_table()
     no_change_is_refused();
 }
 
-/// A rule that says how many states it may have never has more: after any packets no more states than its `max` name it as their
-/// filter rule.
+/// A rule with `max` never has more states than that: after any packets at most `max` states name it as their filter
+/// rule.
 pub fn rules_keep_to_their_max()
     ensures { RulesKeepToTheirMax }
 {
-    // a state is made only where its rule has room
+    // a state is made only if its rule has room
     states_are_made_where_their_rule_has_room();
     // a touched one keeps its rule
     every_change_is_of_the_named_state();
@@ -116,7 +117,7 @@ pub fn rules_keep_to_their_max()
     no_change_is_refused();
 }
 
-/// What the packets of a run did to the table makes it of the empty one, one thing after the other.
+/// The changes that the packets of a run made to the table, one after the other, make it from the empty one.
 pub fn changes_make_the_table()
     ensures { ChangesMakeTheTable }
 {
@@ -124,8 +125,8 @@ pub fn changes_make_the_table()
     a_purge_goes_state_by_state();
 }
 
-/// A standby that applies the messages of a run to a set of numbers, empty at first, holds at the end just the numbers of the states
-/// that are left, except those of rules with `no-sync`.
+/// A standby that applies the messages of a run to a set of numbers, empty at first, holds at the end just the numbers
+/// of the states that are left, except those of rules with `no-sync`.
 pub fn a_standby_holds_the_states()
     ensures { AStandbyHoldsTheStates }
 {
@@ -135,8 +136,9 @@ pub fn a_standby_holds_the_states()
     every_change_is_of_the_named_state();
 }
 
-/// A standby that takes the messages of a run, from the first on to the last, refuses none of them. It holds at the end just the states
-/// that are left, except those of rules with `no-sync`, each with its keys, protocol, direction, rule, ends and timeout.
+/// A standby that takes the messages of a run, from the first on to the last, refuses none of them. It holds at the end
+/// just the states that are left, except those of rules with `no-sync`, each with its keys, protocol, direction, rule,
+/// ends and timeout.
 pub fn standby_holds()
     ensures { AStandbyHoldsEachState }
 {
@@ -146,9 +148,10 @@ pub fn standby_holds()
     every_change_is_of_the_named_state();
 }
 
-/// Every run of the speculative machine comes to the world of the packets that are committed, taken one by one, and what was emitted
-/// is what is written of it. It makes no difference which packets are opened together, who claims and evaluates which of them on
-/// which older states, and which speculations come, are lost or come twice, in whatever order.
+/// Every run of the speculative machine comes to the world of the committed packets, taken one by one, and what was
+/// emitted is what is written of that world. It makes no difference which packets are opened together, or who claims
+/// and evaluates which of them on which older states. Nor does it matter which speculations come, are lost or come
+/// twice, in whatever order.
 pub fn every_run()
     ensures { EveryRun }
 {}

@@ -1,7 +1,7 @@
 //! Packets in the order of their capture: what they leave, and what they add to the outputs of a run.
 //!
-//! A [`Book`] takes one packet after the other, each with what was found out about it ahead, or without. Whatever it is given,
-//! it comes to the world of the packets one by one: the same states, counters, lines and bytes.
+//! A [`Book`] takes one packet after the other, each with a result that was found ahead, or without one. Whatever
+//! results it is given, it leaves the same states, counters, lines and bytes as if it evaluated the packets one by one.
 #![tactic(auto)]
 
 mod batch;

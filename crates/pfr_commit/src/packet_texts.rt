@@ -10,8 +10,8 @@ use pfr_headers::{Change, rewrite};
 use pfr_packet::Outcome;
 use std::alloc::{AllocError, Global};
 
-/// The records that are written, in one text for each interface, by place. There is a text for each place at which one was put, and
-/// for those before it.
+/// The records that are written, one text for each interface, by place. There is a text for each place at which a
+/// record was put, and for each place before it.
 #[derive(Drop)]
 pub struct PacketTexts {
     alloc: Global,
@@ -21,7 +21,7 @@ pub struct PacketTexts {
 /// The length of a record's header, in bytes.
 const HEADER: usize = 16;
 
-/// Writes into the packet of the record that begins at a place.
+/// Writes a change into the packet of the record that begins at byte `start`.
 fn write_into(packets: &mut Vec<u8>, start: usize, link: u16, change: &Option<Change>)
     requires room { start + 16 ≤ length packets.old.items }
     requires change { IfSome change.now (λ change. view_of link (drop (start + 16) packets.old.items) ≡ Ipv4 change.packet) }
@@ -52,7 +52,7 @@ fn put_record(
     Ok(())
 }
 
-/// No bytes, with room for some. If that is refused, room is made as they come.
+/// No bytes, with room for `bytes`. If that is refused, room is made as they come.
 pub(crate) fn room_for(alloc: Global, bytes: usize) -> Vec<u8>
     ensures { result.items ≡ [] }
 {
@@ -73,7 +73,7 @@ impl PacketTexts {
         }
     }
 
-    /// Nothing yet, with room for some bytes at each place. If that is refused, room is made as they come.
+    /// Nothing yet, with room for `rooms[place]` bytes at each place. If that is refused, room is made as they come.
     pub(crate) fn with_room(alloc: Global, rooms: &[usize]) -> PacketTexts
         ensures { packets_of result ≡ spec.nowhere }
     {
@@ -86,7 +86,7 @@ impl PacketTexts {
         packets
     }
 
-    /// The texts by place, as far as there are some.
+    /// The texts by place, up to the last place that has one.
     #[inline]
     pub fn as_slice(&self) -> &[Vec<u8>]
         ensures { result.now ≡ self.now.texts.items }
@@ -122,7 +122,7 @@ impl PacketTexts {
         }
     }
 
-    /// Adds a text, which is empty, behind the last one.
+    /// Adds an empty text behind the last one.
     fn add(&mut self, text: Vec<u8>) -> Result<(), AllocError>
         requires { text.items ≡ [] }
         ensures same { packets_of self.new ≡ packets_of self.old }
@@ -133,7 +133,7 @@ impl PacketTexts {
         Ok(())
     }
 
-    /// Makes texts up to a place, and at it.
+    /// Makes texts for all places up to `place`, itself included.
     fn reach(&mut self, place: usize) -> Result<(), AllocError>
         ensures same { packets_of self.new ≡ packets_of self.old }
         ensures there { OnOk result (place < length self.new.texts.items) }
@@ -145,8 +145,8 @@ impl PacketTexts {
         Ok(())
     }
 
-    /// Appends the record of a packet at the place of its interface, unless the packet is blocked. If memory is refused nothing
-    /// changes.
+    /// Appends the record of a packet at the place of its interface, unless the packet is blocked. If memory is refused
+    /// nothing changes.
     pub(crate) fn put(&mut self, packet: &Record, outcome: &Outcome) -> Result<(), AllocError>
         requires { IfSome outcome.now.bytes (λ change. view_of packet.now.link packet.now.bytes.items ≡ Ipv4 change.packet) }
         ensures done { OnOk result (AddsRecord self.old self.new packet.now outcome.now) }

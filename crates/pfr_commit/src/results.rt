@@ -10,8 +10,8 @@ use std::alloc::{AllocError, Global};
 /// For each packet of a batch its result, if there is one.
 pub(crate) type Places<'r> = Vec<Option<&'r Speculation>>;
 
-/// The results of packets, each at its packet's place, and whether all are known to be of the committer's job. Results stay where they
-/// are.
+/// The results of packets, each at its packet's place. `are_of_job` says that all are of the committer's job. Results
+/// are borrowed, not moved.
 #[derive(Drop)]
 pub(crate) struct ResultsByPlace<'r> {
     pub(crate) places: Places<'r>,
@@ -29,7 +29,7 @@ fn empty_places<'r>(alloc: Global, count: usize) -> Result<Places<'r>, AllocErro
     Ok(places)
 }
 
-/// Whether there is such a place, with nothing in it.
+/// Whether `place` exists and is empty.
 fn is_free(places: &Places<'_>, place: usize) -> bool
     ensures { result ≡ spec.is_free places.now.items place }
 {
@@ -61,7 +61,8 @@ fn put_group<'r>(places: &mut Places<'r>, first: u64, group: &'r [Speculation])
     }
 }
 
-/// The result of each of `count` packets, the first of which has the number `first`: of several of one packet the first.
+/// The result of each of `count` packets, numbered from `first`. If a packet has several results, the first one is
+/// taken.
 fn placed<'r>(
     alloc: Global,
     groups: &'r [Vec<Speculation>],
@@ -78,8 +79,8 @@ fn placed<'r>(
     Ok(places)
 }
 
-/// The results for `count` packets, the first of which has the number `first`: of several of one packet the first. They take no room
-/// if there are no groups. They may be known to be of the committer's job.
+/// The results for `count` packets, numbered from `first`. If a packet has several results, the first one is taken.
+/// They take no room if there are no groups. `are_of_job` says that all are of the committer's job.
 pub(crate) fn in_places<'r>(
     alloc: Global,
     groups: &'r [Vec<Speculation>],
@@ -98,7 +99,7 @@ pub(crate) fn in_places<'r>(
     Ok(ResultsByPlace { places, are_of_job })
 }
 
-/// One place with a result, or no place if there is no result. Nothing is known of its job.
+/// One place with a result, or no place if there is no result. The result may be of another job.
 pub(crate) fn of_one<'r>(
     alloc: Global,
     found: Option<&'r Speculation>,
@@ -117,7 +118,7 @@ pub(crate) fn of_one<'r>(
 }
 
 impl<'r> ResultsByPlace<'r> {
-    /// What stands at a place.
+    /// The result at `place`, if there is one.
     #[inline]
     pub(crate) fn at(&self, place: usize) -> Option<&'r Speculation>
         ensures some { IfSome result (λ found. result_at place self.now ≡ Some found.now) }

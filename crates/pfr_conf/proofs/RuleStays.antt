@@ -1,4 +1,4 @@
--- The readers of options and filter rules read the same where lines stand behind what they read.
+-- The readers of options and filter rules read the same if lines stand behind what they read.
 use Rattle.std.proofs.Common.{ℕ, suc, Bool, true, false, if◌then◌else◌, not, List, Option, Some, None, Err, codes, refl}
 use Rattle.pfr_net.specs.declared.direction.Direction.{Direction}
 use Rattle.pfr_ruleset.specs.declared.policy.BlockPolicy.{BlockPolicy}

@@ -1,4 +1,4 @@
--- A statement that is read is put behind those that were read before, and hangs on them by their section alone.
+-- A statement that is read is put behind those that were read before, and depends on their section alone.
 use Rattle.std.proofs.Common.{◌≡◌, ◌||◌, ◌⊎◌, inl, inr, if◌then◌else◌, Bool, true, false, not, List, [], ◌∷◌, ◌++◌, Ok, Err, ℕ, codes, refl}
 use Rattle.pfr_terms.specs.declared.error.ConfError.{ConfError}
 use Rattle.pfr_terms.specs.declared.error.ConfErrorKind.TheVariants.{OutOfOrder}
@@ -46,7 +46,7 @@ shifts_never : {A : Type 0} (before other : Lines) (x : Outcome A) (f : A → Pa
 shifts_never before other (Ok r) f e shifts = shifts r.0 r.1
 shifts_never before other (Err g) f e shifts = tt
 
--- what is there isn't allowed where it may not come
+-- what is there isn't allowed if it may not come
 not_allowed : (may other : Bool) → may ≡ true → other ≡ false → Allows may other true → ⊥
 not_allowed true false is other_is allows = absurd (cc)
 not_allowed true true is other_is allows = absurd (cc)

@@ -1,4 +1,4 @@
--- The readers of statements read the same where lines stand behind what they read.
+-- The readers of statements read the same if lines stand behind what they read.
 use Rattle.std.proofs.Common.{◌≡◌, ◌≤◌, ◌<◌, ℕ, zero, suc, if◌then◌else◌, Bool, true, false, not, List, [], ◌∷◌, ◌++◌, length, Option, Some, None, Ok, Err, codes, refl, sym, ◌∙◌, ap, arith}
 use Rattle.pfr_words.specs.declared.sign.Sign.TheVariants as s
 use Rattle.pfr_words.specs.declared.word.Token.{Token}
@@ -113,7 +113,7 @@ follows_same line ys to closing eaten all count x y x' y' follows e f = rw (← 
 stays_same : {A : Type 0} {before to sees : Bool} {closing count : ℕ} {eaten : A → Bool} {p q p' q' : Parser A} → ((i : Input) → p i ≡ p' i) → ((i : Input) → q i ≡ q' i) → Stays before to closing sees eaten count p q → Stays before to closing sees eaten count p' q'
 stays_same {to = to} {closing = closing} {eaten = eaten} e f stays = record { from = λ line ys i fine braces sees within. follows_same line ys to closing eaten _ _ _ _ _ _ (stays.from line ys i fine braces sees within) (e i) (f (longer line ys i)) }
 
--- where a test finds that the next word is there
+-- if a test finds that the next word is there
 seen_follows : {A : Type 0} {sees : Bool} {count : ℕ} {p q p' q' : Parser A} (test : Input → Bool) (line : ℕ) (ys : List Word) (i : Input) (found : Bool) → IsTest test → test i ≡ found
     → Stays false false 0 true (λ a. false) count p p' → Stays false false 0 sees (λ a. false) count q q' → Fine false i → Sees sees i → length i.words < count
     → Follows line ys false 0 (λ a. false) (closers i.words) (length i.words) (if found then p i else q i) (if found then p' (longer line ys i) else q' (longer line ys i))

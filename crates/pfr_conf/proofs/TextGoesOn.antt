@@ -1,4 +1,4 @@
--- A text that is read, where another stands behind it: its statements stay the first ones.
+-- A text that is read, if another stands behind it: its statements stay the first ones.
 use Rattle.std.proofs.Common.{◌≡◌, ◌≢◌, ◌+◌, ◌-◌, ℕ, zero, suc, if◌then◌else◌, Bool, true, false, List, [], ◌∷◌, ◌++◌, append-nil, append_assoc, length, slice_index, Ok, Err, All, refl, sym, ◌∙◌, ap, arith}
 use Rattle.pfr_words.specs.declared.word.Token.TheVariants as t
 use Rattle.pfr_words.specs.declared.word.Word.{Word}

@@ -1,4 +1,4 @@
--- What a text says, where another stands behind it.
+-- What a text says, if another stands behind it.
 use Rattle.std.proofs.Common.{◌≡◌, ◌≢◌, ◌≤◌, ◌<◌, ◌+◌, ◌-◌, ◌&&◌, eqb, ℕ, zero, suc, if◌then◌else◌, Bool, true, false, List, [], ◌∷◌, ◌++◌, length, slice_index, length-append, None, Ok, Err, All, refl, ap, arith, eqb-true, ne_eqb}
 use Rattle.pfr_words.specs.declared.sign.Sign.TheVariants as s
 use Rattle.pfr_words.specs.declared.word.Token.{Token}

@@ -1,4 +1,4 @@
--- The readers of translation rules read the same where lines stand behind what they read.
+-- The readers of translation rules read the same if lines stand behind what they read.
 use Rattle.std.proofs.Common.{ℕ, ◌||◌, ◌&&◌, Bool, true, false, List, Option, Some, None, Result, Ok, Err, codes, nat_lt, refl}
 use Rattle.pfr_ruleset.specs.declared.port.PortMatch.{PortMatch}
 use Rattle.pfr_words.specs.declared.sign.Sign.TheVariants as s
@@ -98,7 +98,7 @@ target_stays Nat = nat_target_stays
 target_stays Rdr = rdr_target_stays
 target_stays Binat = stays_then (single_host_stays _) (λ address. stays_pure _)
 
--- ---- what is asked of a packet
+-- ---- criteria
 
 eaten_stays : {X : Type 0} {inside : Bool} {count : ℕ} (found : X) → Stays inside inside 0 true (λ (a : Option X). false) count (ports.eaten (Some found)) (ports.eaten (Some found))
 eaten_stays found = stays_then stays_taken (λ done. stays_pure (Some found))

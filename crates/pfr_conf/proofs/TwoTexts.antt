@@ -159,7 +159,7 @@ if_end : (fault : Bool) (w : Word) → (if fault then record w { token = t.Bad U
 if_end true w is = absurd (cc)
 if_end false w is = refl
 
--- where all words end lines, there is no brace
+-- if all words end lines, there is no brace
 no_brace : (ws : List Word) → All (λ (w : Word). w.token ≡ t.LineEnd) (with_braces ws) → with_braces ws ≡ ws
 no_brace [] all = refl
 no_brace (w ∷ ws) all =

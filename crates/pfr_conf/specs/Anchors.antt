@@ -73,7 +73,7 @@ rule_or anchor line None = λ i. if sees_word (codes "anchor") i then anchor lin
 unfoldable pub rule_or_anchor : (ℕ → Parser FilterStatement) → Parser FilterStatement
 rule_or_anchor anchor = λ i. (action >>= rule_or anchor (line_ahead i)) i
 
--- a filter rule, or an anchor with at most so many in one another
+-- a filter rule or an anchor, with at most `depth` anchors in one another
 unfoldable pub statement : ℕ → Parser FilterStatement
 statement zero = rule_or_anchor (λ line. faulty TooDeep)
 statement (suc depth) = rule_or_anchor (anchor_of (statement depth))

@@ -22,15 +22,15 @@ HasFault text e = statements_of text ≡ Err e
 abbrev pub SaysNothing : List ℕ → Type 0
 SaysNothing text = All (λ (w : Word). w.token ≡ LineEnd) (words text)
 
--- a text is read as the one's statements and the other's behind them
+-- a text is read as the statements of `a`, and those of `b` behind them
 abbrev pub SaysBoth : List ℕ → Statements → Statements → Type 0
 SaysBoth text a b = Says text (record { statements = a.statements ++ b.statements })
 
--- the one's statements are the first of the other's
+-- the statements of `a` are the first of those of `b`
 abbrev pub IsBeginning : Statements → Statements → Type 0
 IsBeginning a b = (more : List Statement) × (b.statements ≡ a.statements ++ more)
 
--- two texts are read, the second so many lines further down, and its statements may stand behind those of the first
+-- two texts are read, the second `lines` lines further down, and its statements may stand behind those of the first
 pub record AreReadApart (lines : ℕ) (first second : List ℕ) (a b : Statements) : Type 0 where
   pub whole : IsWhole first
   pub says : Says first a

@@ -69,7 +69,7 @@ abbrev pub with_digit : (ℕ → Option ℕ) → ℕ → Option ℕ → Option �
 with_digit more value None = None
 with_digit more value (Some digit) = more (min (16 * value + digit) 4294967296)
 
--- the number that digits write behind others; one stands for all that are above every limit
+-- the number that digits write behind others of this value; one number stands for all that are above every limit
 abbrev pub hexadecimal : ℕ → List ℕ → Option ℕ
 hexadecimal value [] = Some value
 hexadecimal value (b ∷ digits) = with_digit (λ v. hexadecimal v digits) value (hex_digit b)

@@ -44,7 +44,7 @@ abbrev pub limit_in : Option (List ℕ) → Option Limit
 limit_in None = None
 limit_in (Some word) = limit_named word
 
--- where a timeout has to stand
+-- the fault of a word in place of a timeout
 unfoldable pub adaptive_refusal : Input → ConfError
 adaptive_refusal i = if sees_word (codes "adaptive.start") i || sees_word (codes "adaptive.end") i then left_out (codes "timeout") i else refusal i
 
@@ -52,7 +52,7 @@ abbrev pub timeout_refusal_by : Option TimeoutName → Input → ConfError
 timeout_refusal_by (Some timeout) i = left_out (codes "timeout") i
 timeout_refusal_by None i = adaptive_refusal i
 
--- where an option of a state has to stand
+-- the fault of a word in place of an option of a state
 unfoldable pub timeout_refusal : Input → ConfError
 timeout_refusal i = timeout_refusal_by (timeout_in (plain_ahead i)) i
 

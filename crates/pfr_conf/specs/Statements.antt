@@ -34,7 +34,7 @@ may_translate section.Filter = false
 abbrev pub words_of_filters : List (List ℕ)
 words_of_filters = codes "pass" ∷ codes "block" ∷ codes "anchor" ∷ []
 
--- the words that begin a translation rule, or an anchor of such
+-- the words that begin a translation rule, or an anchor of such rules
 abbrev pub words_of_translations : List (List ℕ)
 words_of_translations =
     codes "nat" ∷ codes "rdr" ∷ codes "binat" ∷ codes "no"
@@ -52,7 +52,7 @@ begins_translation (Some word) = is_among words_of_translations word
 abbrev pub Lines : Type 0
 Lines = Section × List Statement
 
--- what a function promises that reads onto what was found before
+-- what a function promises that reads and adds to what was found before
 abbrev pub ReadsOnto : {A B : Type 0} → Outcome (A × B) → Result A ConfError → B → Input → Type 0
 ReadsOnto outcome (Ok a) found new = outcome ≡ Ok ((a, found), new)
 ReadsOnto outcome (Err e) found new = e.kind ≢ Memory → outcome ≡ Err e

@@ -27,14 +27,14 @@ use Rattle.pfr_conf.specs.declared.translation.TranslationKind.TheVariants as ki
 
 -- ---- one address
 
--- a network of fewer than 32 bits, or the first of a range, on this line
+-- one address; a network of fewer than 32 bits, or the first address of a range, is a fault on this line
 unfoldable pub one_address : ℕ → Written Host → Parser (Written Host)
 one_address line (w.Item (h.Network network)) = λ i. if nat_lt network.bits 32 then Err (left_out_at line (codes "pool")) else pure (w.Item (h.Network network)) i
 one_address line (w.Item (h.Address address)) = λ i. if sees_sign s.Minus i then Err (record { line = line; kind = BadAddress }) else pure (w.Item (h.Address address)) i
 one_address line (w.Item other) = pure (w.Item other)
 one_address line (w.Macro found) = pure (w.Macro found)
 
--- more than one address is left out, and a table with them where it may stand for one
+-- more than one address is left out; with `has_tables` a table counts as more than one
 unfoldable pub single_host : Bool → Parser (Written Host)
 single_host has_tables = λ i.
     if sees_sign s.OpenBrace i || (has_tables && sees_sign s.Less i) then leave_out (codes "pool") i

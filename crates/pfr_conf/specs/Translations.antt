@@ -44,7 +44,7 @@ kind = λ i. eaten (kind_in (plain_ahead i)) i
 unfoldable pub anchor_kind : Parser (Option TranslationKind)
 anchor_kind = λ i. eaten (anchor_kind_in (plain_ahead i)) i
 
--- ---- what is asked of a packet
+-- ---- criteria
 
 abbrev pub only : Written Host → AddressMatch
 only (w.Item host) = record { is_negated = false; address = a.Host host }
@@ -124,6 +124,6 @@ anchor_or_rule None = do
   rule ← translation_rule
   pure (Rule rule)
 
--- a translation rule, or an anchor of such, which is empty
+-- a translation rule, or an anchor of such rules, which is empty
 unfoldable pub translation_statement : Parser TranslationStatement
 translation_statement = anchor_kind >>= anchor_or_rule

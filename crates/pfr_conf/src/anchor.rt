@@ -70,7 +70,7 @@ fn add_line<'a>(
     end_of_line(alloc, reader)
 }
 
-/// The lines of a body up to the closing brace, of which each may hold at most this many anchors in one another.
+/// The lines of a body up to the closing brace. Each line may hold at most `depth` anchors in one another.
 #[cycle(nest)]
 #[tactic(auto, using(pfr_terms::proofs::Turns::one_turn, pfr_terms::proofs::Turns::no_turn))]
 fn body<'a>(

@@ -10,7 +10,7 @@ pub fn fault_is_on_a_line()
     ensures { (text : List ℕ) (e : ConfError) → HasFault text e → (1 ≤ e.line) × (e.line ≤ 1 + newlines text) }
 {}
 
-/// A text's first fault stays the first when text is put behind it, where the first text doesn't end in a backslash
+/// A text's first fault stays the first when text is put behind it, if the first text doesn't end in a backslash
 /// and closes each brace that it opens.
 pub fn a_fault_stays_the_first()
     ensures { (first second : List ℕ) (e : ConfError) → IsWhole first → HasFault first e → HasFault (joined first second) e }
@@ -21,8 +21,8 @@ pub fn blank_lines_and_comments_say_nothing()
     ensures { (text : List ℕ) → SaysNothing text → Says text (record { statements = [] }) }
 {}
 
-/// Of two texts one behind the other the statements of the first come first, where both together are read. The first
-/// text doesn't end in a backslash and closes each brace that it opens.
+/// Of two texts one behind the other the statements of the first come first, if the whole is read without fault. The
+/// first text doesn't end in a backslash and closes each brace that it opens.
 pub fn statements_stay_the_first()
     ensures { (first second : List ℕ) (a b : Statements) → IsWhole first → Says first a → Says (joined first second) b → IsBeginning a b }
 {}
@@ -33,9 +33,10 @@ pub fn blank_lines_and_comments_behind_say_nothing()
     ensures { (first second : List ℕ) (a : Statements) → IsWhole first → SaysNothing second → Says first a → Says (joined first second) a }
 {}
 
-/// The statements of two texts, one behind the other, are those of the first and those of the second, where both are
-/// read, no option of the second stands behind a rule of the first, and no translation rule behind a filter rule. The second
-/// text is read on the lines where it then stands. The first text doesn't end in a backslash and closes each brace that it opens.
+/// The statements of two texts, one behind the other, are those of the first and then those of the second. This holds
+/// if both are read, no option of the second stands behind a rule of the first, and no translation rule behind a filter
+/// rule. The second text is read on the lines where it then stands. The first text doesn't end in a backslash and
+/// closes each brace that it opens.
 pub fn two_texts_say_what_both_say()
     ensures { (first second : List ℕ) (a b : Statements) → AreReadInTurn first second a b → SaysBoth (joined first second) a b }
 {}

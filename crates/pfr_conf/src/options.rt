@@ -25,7 +25,7 @@ pub enum SetOption<'a> {
     BlockPolicy(BlockPolicy),
     /// The policy of states whose rule has none.
     StatePolicy(StatePolicy),
-    /// The number by which this firewall's states are known to others, from 1 to 4294967295.
+    /// The number by which other firewalls know this one's states, from 1 to 4294967295.
     HostId(u32),
     /// `optimization normal`
     NormalOptimization,
@@ -132,7 +132,7 @@ fn hex_digit(byte: u8) -> Option<u64>
     }
 }
 
-/// The value of hexadecimal digits; [`TOO_LARGE`] stands for all from there on.
+/// The value of hexadecimal digits; [`TOO_LARGE`] stands for itself and all larger numbers.
 fn hexadecimal(digits: &[u8]) -> Option<u64>
     ensures { result ≡ spec.hexadecimal 0 digits.now }
 {

@@ -37,8 +37,8 @@ fn statements_in<'a>(alloc: Global, words: &[Word<'a>]) -> Result<Statements<'a>
     Ok(Statements { statements })
 }
 
-/// The statements of a ruleset text as pf.conf(5) has it, or its first fault in the order of the text. A fault inside a
-/// macro's value, of a table that isn't defined or of a name that isn't the interface's is none here.
+/// The statements of a ruleset text as pf.conf(5) has it, or its first fault in the order of the text. Faults inside a
+/// macro's value, tables that aren't defined and names that aren't the interface's are no faults here.
 #[tactic(auto, unfolding(crate::specs::Statements::statements_of))]
 pub fn read<'a>(alloc: Global, text: &'a [u8]) -> Result<Statements<'a>, ConfError>
     ensures { Gives (spec.statements_of text.now) result }

@@ -116,7 +116,7 @@ fn state_option(
     most_option(alloc, reader, found)
 }
 
-/// The options of a state up to the closing bracket, of which there is at least one.
+/// The options of a state, at least one, up to the closing bracket.
 #[tactic(auto, using(pfr_terms::proofs::Turns::one_turn, pfr_terms::proofs::Turns::no_turn))]
 fn state_options(alloc: Global, reader: &mut Reader<'_, '_>) -> Result<StateOptions, ConfError>
     ensures { Reads (spec.state_options reader.old) result reader.new }
@@ -182,7 +182,7 @@ fn last_option<'a>(
     Ok(false)
 }
 
-/// Reads `no state` or `keep state ..` where none came, or one of the last options; answers whether one came.
+/// Reads `no state` or `keep state ..` if none came before, or one of the last options; answers whether one came.
 #[tactic(auto, unfolding(crate::specs::RuleOptions::later_option))]
 fn later_option<'a>(
     alloc: Global,

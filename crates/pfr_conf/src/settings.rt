@@ -10,7 +10,7 @@ use pfr_words::Bytes;
 use pfr_words::names::entry_of;
 use std::alloc::Global;
 
-/// What a timeout of pf.conf(5) is named for: states, or what this profile leaves out, where it has no effect.
+/// What a timeout of pf.conf(5) is named for: states, or what this profile leaves out, so that it has no effect.
 #[derive(Clone, Copy)]
 pub enum TimeoutName {
     OfStates(Timeout),
@@ -111,7 +111,7 @@ fn limit_in(word: Option<Bytes<'_>>) -> Option<Limit>
     }
 }
 
-/// The fault of a word that is no timeout: those that adapt are left out.
+/// The fault of a word that is no timeout: adaptive timeouts are left out.
 #[tactic(auto, unfolding(crate::specs::Settings::adaptive_refusal))]
 pub(crate) fn adaptive_refusal(alloc: Global, reader: &Reader<'_, '_>) -> ConfError
     ensures { Refuses (spec.adaptive_refusal reader.now) result }

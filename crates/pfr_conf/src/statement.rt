@@ -63,7 +63,7 @@ fn may_translate(reached: Section) -> bool
 /// The words that begin a filter rule or an anchor.
 const FILTER_WORDS: [&[u8]; 3] = [b"pass", b"block", b"anchor"];
 
-/// The words that begin a translation rule, or an anchor of such.
+/// The words that begin a translation rule, or an anchor of such rules.
 const TRANSLATION_WORDS: [&[u8]; 7] = [
     b"nat",
     b"rdr",
@@ -85,7 +85,7 @@ fn begins_filter(word: Option<Bytes<'_>>) -> bool
     }
 }
 
-/// Whether the next word begins a translation rule, or an anchor of such.
+/// Whether the next word begins a translation rule, or an anchor of such rules.
 #[tactic(auto, unfolding(crate::specs::Statements::begins_translation))]
 fn begins_translation(word: Option<Bytes<'_>>) -> bool
     ensures { result ≡ spec.begins_translation word.entry }
@@ -96,7 +96,7 @@ fn begins_translation(word: Option<Bytes<'_>>) -> bool
     }
 }
 
-/// Adds a translation rule, or an anchor of such.
+/// Adds a translation rule, or an anchor of such rules.
 #[tactic(auto, unfolding(crate::specs::Statements::rule_to_translate))]
 fn rule_to_translate<'a>(
     alloc: Global,
@@ -110,7 +110,7 @@ fn rule_to_translate<'a>(
     Ok(Section::Translation)
 }
 
-/// Adds a translation rule, or an anchor of such, if one may still come.
+/// Adds a translation rule, or an anchor of such rules, if one may still come.
 #[tactic(auto, unfolding(crate::specs::Statements::translation_line))]
 fn translation_line<'a>(
     alloc: Global,

@@ -48,7 +48,7 @@ pub enum Target<'a> {
     Binat(Written<'a, Host<'a>>),
 }
 
-/// What a word says where the port of a `rdr` target has to stand and none does.
+/// What is wrong with a word that stands in place of the port of a `rdr` target.
 #[derive(Clone, Copy)]
 enum PortFault {
     /// No port and no service.
@@ -59,7 +59,7 @@ enum PortFault {
     Pool,
 }
 
-/// One address, which a network of 32 bits is too.
+/// One address; a network of 32 bits is one too.
 #[tactic(auto, unfolding(crate::specs::Targets::one_address))]
 fn one_address<'a>(
     alloc: Global,
@@ -102,7 +102,7 @@ pub(crate) fn single_host<'a>(
     one_address(alloc, reader, line, host)
 }
 
-/// What a word says that is neither `z` nor `z:*`.
+/// What is wrong with a word that is neither `z` nor `z:*`.
 fn fault_of(first: PortWord, second: PortWord) -> PortFault
     ensures { result ≡ spec.fault_of first second }
 {

@@ -1,4 +1,4 @@
-//! Translation rules: `nat`, `rdr` and `binat`, and anchors of such.
+//! Translation rules: `nat`, `rdr` and `binat`, and anchors of such rules.
 ghost use Rattle.std.specs.Prelude.{◌≡◌, ◌∷◌, [], Ok, IfOk};
 ghost use Rattle.pfr_terms.specs.Input.{Reads};
 ghost use Rattle.pfr_conf.specs.Translations as spec;
@@ -38,7 +38,7 @@ pub struct TranslationRule<'a> {
     pub target: Option<Target<'a>>,
 }
 
-/// A translation rule, or an anchor of such, which is empty.
+/// A translation rule, or an anchor of such rules, which is empty.
 #[derive(Drop)]
 pub enum TranslationStatement<'a> {
     Rule(TranslationRule<'a>),
@@ -52,7 +52,7 @@ const KINDS: [(&[u8], TranslationKind); 3] = [
     (b"binat", TranslationKind::Binat),
 ];
 
-/// The words that begin an anchor of such.
+/// The words that begin an anchor of such rules.
 const ANCHOR_KINDS: [(&[u8], TranslationKind); 3] = [
     (b"nat-anchor", TranslationKind::Nat),
     (b"rdr-anchor", TranslationKind::Rdr),
@@ -127,7 +127,7 @@ fn binat_source<'a>(alloc: Global, reader: &mut Reader<'_, 'a>) -> Result<Part<'
     })
 }
 
-/// What a binat rule with a target asks of a packet.
+/// The criteria of a binat rule with a target.
 #[tactic(auto, unfolding(crate::specs::Translations::binat_criteria))]
 fn binat_criteria<'a>(alloc: Global, reader: &mut Reader<'_, 'a>) -> Result<Criteria<'a>, ConfError>
     ensures { Reads (spec.binat_criteria reader.old) result reader.new }
@@ -159,7 +159,7 @@ fn passes(alloc: Global, reader: &mut Reader<'_, '_>) -> Result<(bool, bool), Co
     }
 }
 
-/// What a rule of this kind asks of a packet; only `binat` with a target asks for one address.
+/// The criteria of a rule of this kind; only `binat` with a target asks for one address.
 #[tactic(auto, unfolding(crate::specs::Translations::translated))]
 fn translated<'a>(
     alloc: Global,
@@ -252,7 +252,7 @@ fn translation_rule<'a>(
     }
 }
 
-/// A translation rule, or an anchor of such.
+/// A translation rule, or an anchor of such rules.
 #[tactic(auto, unfolding(crate::specs::Translations::translation_statement))]
 pub fn translation<'a>(
     alloc: Global,

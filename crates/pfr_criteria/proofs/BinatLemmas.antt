@@ -27,12 +27,12 @@ single_holds tables address number = rw (prefix_all number, prefix_all address.0
 same_is : (n : ℕ) → (n == n) ≡ true
 same_is n = eq-eqb n n refl
 
--- what is asked of a packet that goes out
+-- the criteria of a packet that goes out
 asked_out : (m : PacketMatch) (address : Ipv4Address) (name : IfName) (tables : List (List Entry)) (packet : Packet) → m.source ≡ single address → m.icmp ≡ None → match_holds m name tables packet ≡ (protocol_holds m.protocol packet.protocol.0 && (interface_holds m.interface name && (port_asked m.destination_port (destination_port packet.transport) && (port_asked m.source_port (source_port packet.transport) && (host_holds tables m.destination packet.destination.0 && (packet.source.0 == address.0))))))
 unfolding match_holds icmp_holds
 asked_out m address name tables packet source_is no_type = rw (source_is, no_type, single_holds tables address packet.source.0) refl
 
--- what is asked of its answer, which comes in
+-- the criteria of its answer, which comes in
 asked_in : (m : PacketMatch) (target : Ipv4Address) (name : IfName) (tables : List (List Entry)) (packet answer : Packet) → m.icmp ≡ None → IsAnswer packet target answer → match_holds (turned target m) name tables answer ≡ (protocol_holds m.protocol packet.protocol.0 && (interface_holds m.interface name && (port_asked m.source_port (source_port packet.transport) && (port_asked m.destination_port (destination_port packet.transport) && host_holds tables m.destination packet.destination.0))))
 unfolding match_holds icmp_holds
 asked_in m target name tables packet answer no_type is = rw (no_type, is.protocol, is.from, is.to, is.from_port, is.to_port, single_holds tables target target.0, same_is target.0) refl

@@ -142,7 +142,7 @@ unfolding covers shape_place
 place_covers [] asked = refl
 place_covers (shape ∷ shapes) asked = first_covers (covers shape asked) shape shapes asked refl (place_covers shapes asked)
 
--- where a rule holds, its key is that of what the packet has of its shape
+-- if a rule holds, its key is the key of the packet's values of its shape
 pub keys_agree : (shapes : List Shape) (size : ℕ) (asked : Asked) (name : IfName) (tables : List (List Entry)) (packet : Packet) → match_holds asked.packet name tables packet ≡ true
     → key_of_rule shapes size asked ≡ key (shape_place shapes asked.packet) (pins_in (shape_at shapes (shape_place shapes asked.packet)) packet) size
 unfolding key_of_rule

@@ -1,4 +1,4 @@
--- Where a rule fails, those up to its skip fail.
+-- If a rule fails at a criterion, the rules up to its skip fail there.
 use Rattle.std.proofs.Common.{◌≡◌, ◌≤◌, ◌<◌, ◌&&◌, ℕ, Bool, true, false, List, map, Some, refl, ap, sym, ◌∙◌}
 use Rattle.std.proofs.Math.Bool.{and-false}
 use Rattle.std.specs.List.{slice_get}
@@ -70,7 +70,7 @@ same_part criterion.DestinationPort a b name tables packet direction same = ap (
 asked_at : {R : Type 0} (asked : R → Asked) (rules : List R) (k : ℕ) (rule : R) → slice_get rules k ≡ Some rule → slice_get (map asked rules) k ≡ Some (asked rule)
 asked_at asked rules k rule at = slice_get-map asked rules k ∙ ap (option_map asked) at
 
--- where a rule fails at a criterion, so does each one before its skip
+-- if a rule fails at a criterion, so does each one before its skip
 pub part_fails_on : {R : Type 0} (asked : R → Asked) (c : Criterion) (rules : List R) (place next : ℕ) (rule : R) (name : IfName) (tables : List (List Entry)) (packet : Packet) (direction : Direction)
     → IsSkip c (map asked rules) place next → slice_get rules place ≡ Some rule → part_holds c (asked rule) name tables packet direction ≡ false
     → (q : ℕ) (other : R) → place ≤ q → q < next → slice_get rules q ≡ Some other → part_holds c (asked other) name tables packet direction ≡ false

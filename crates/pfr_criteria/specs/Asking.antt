@@ -14,7 +14,7 @@ use Rattle.pfr_criteria.specs.Hosts.{host_holds}
 use Rattle.pfr_criteria.specs.Packets.{direction_holds, interface_holds, protocol_holds}
 use Rattle.pfr_criteria.specs.Transports.{port_asked, source_port, destination_port}
 
--- whether a packet is what a rule asks for at one criterion
+-- whether a packet meets one criterion of a rule
 abbrev pub part_holds : Criterion → Asked → IfName → List (List Entry) → Packet → Direction → Bool
 part_holds criterion.Interface asked name tables packet direction = interface_holds asked.packet.interface name
 part_holds criterion.Direction asked name tables packet direction = direction_holds asked.direction direction
@@ -30,13 +30,13 @@ holds_by answer.Holds = true
 holds_by answer.Fails = false
 holds_by (answer.FailsAt criterion) = false
 
--- where an answer says at which criterion a rule fails, the packet isn't what the rule asks for there
+-- if an answer says at which criterion a rule fails, the packet doesn't meet that criterion
 abbrev pub FailsRightly : Answer → Asked → IfName → List (List Entry) → Packet → Direction → Type 0
 FailsRightly answer.Holds asked name tables packet direction = ⊤
 FailsRightly answer.Fails asked name tables packet direction = ⊤
 FailsRightly (answer.FailsAt criterion) asked name tables packet direction = part_holds criterion asked name tables packet direction ≡ false
 
--- the same whatever direction is written and whichever the packet has
+-- the same for each direction that a rule may write and each that the packet may have
 abbrev pub FailsEitherWay : Answer → PacketMatch → IfName → List (List Entry) → Packet → Type 0
 FailsEitherWay said asked name tables packet =
     (written : Option Direction) (direction : Direction) → FailsRightly said (record { direction = written; packet = asked }) name tables packet direction

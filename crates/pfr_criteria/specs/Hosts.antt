@@ -15,7 +15,7 @@ is_longest entries address e = list_all (λ f. not (holds address f) || nat_le (
 abbrev pub says_yes : List Entry → ℕ → Entry → Bool
 says_yes entries address e = holds address e && (not e.is_negated && is_longest entries address e)
 
--- of the entries that hold the address the longest decides by its sign; none says no
+-- of the entries that hold the address the longest decides by its sign; without such an entry the answer is no
 unfoldable pub has : List Entry → ℕ → Bool
 has entries address = list_any (says_yes entries address) entries
 
@@ -29,6 +29,6 @@ among tables (set.Network network) address = networks.holds network (record { 0 
 among tables (set.Range first last) address = nat_le first.0 address && nat_le address last.0
 among tables (set.Table place) address = in_table (slice_get tables place) address
 
--- behind a `!` just what doesn't hold without it
+-- a criterion with `!` holds exactly the addresses that it doesn't hold without it
 unfoldable pub host_holds : List (List Entry) → HostCriterion → ℕ → Bool
 host_holds tables criterion address = if criterion.is_negated then not (among tables criterion.hosts address) else among tables criterion.hosts address

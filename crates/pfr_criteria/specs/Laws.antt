@@ -33,13 +33,13 @@ TablesHoldByTheirEntries =
     → (address : ℕ)
     → has entries address ≡ has others address
 
--- where the first table is that of the interfaces' addresses, what `self` of several interfaces stands for holds just these
+-- if the first table has the interfaces' addresses, `self` of several interfaces holds exactly these
 abbrev pub OwnAddressesAreHeld : Type 0
 OwnAddressesAreHeld =
     (interfaces : List Interface) (rest : List (List Entry)) (address : ℕ)
     → among (own_table interfaces ∷ rest) own_addresses address ≡ list_any (λ interface. interface.address.0 == address) interfaces
 
--- where a filter rule fails at a criterion, each one before its skip fails
+-- if a filter rule fails at a criterion, each rule before its skip fails there
 abbrev pub RulesFailUpToSkips : Type 0
 RulesFailUpToSkips =
     (criterion : Criterion) (rules : List FlatRule) (place next : ℕ) (rule : FlatRule) (name : IfName) (tables : List (List Entry)) (packet : Packet) (direction : Direction)
@@ -48,7 +48,7 @@ RulesFailUpToSkips =
     → part_holds criterion (asked_by rule) name tables packet direction ≡ false
     → (q : ℕ) (other : FlatRule) → place ≤ q → q < next → slice_get rules q ≡ Some other → rule_holds other name tables packet direction ≡ false
 
--- the same of translation rules; of which direction the packet is doesn't matter to them
+-- the same of translation rules; the packet's direction doesn't matter to them
 abbrev pub TranslationsFailUpToSkips : Type 0 → Type 0
 TranslationsFailUpToSkips T =
     (criterion : Criterion) (rules : List (FlatTranslation T)) (place next : ℕ) (rule : FlatTranslation T) (name : IfName) (tables : List (List Entry)) (packet : Packet) (direction : Direction)
@@ -57,7 +57,7 @@ TranslationsFailUpToSkips T =
     → part_holds criterion (asked_by_translation rule) name tables packet direction ≡ false
     → (q : ℕ) (other : FlatTranslation T) → place ≤ q → q < next → slice_get rules q ≡ Some other → translation_holds other name tables packet ≡ false
 
--- a packet that a rule holds for has what the rule pins
+-- a packet for which a rule holds has what the rule pins
 abbrev pub PinsAgree : Type 0
 PinsAgree =
     (shape : Shape) (asked : PacketMatch) (name : IfName) (tables : List (List Entry)) (packet : Packet)
@@ -65,7 +65,7 @@ PinsAgree =
     → match_holds asked name tables packet ≡ true
     → pins_of shape asked ≡ pins_in shape packet
 
--- where a rule holds, its key is that of what the packet has of the shape that the rule counts as of
+-- if a rule holds, its key is the key of the packet's values, by the shape to which the rule belongs
 abbrev pub KeysAgree : Type 0
 KeysAgree =
     (shapes : List Shape) (size : ℕ) (asked : Asked) (name : IfName) (tables : List (List Entry)) (packet : Packet)
@@ -88,7 +88,8 @@ pub record IsBinat (rule : FlatTranslation Ipv4Address) (address target : Ipv4Ad
   pub to : rule.target ≡ Some target
   pub no_type : rule.packet.icmp ≡ None
 
--- it holds for a packet that goes out just where that comes from the address and the rule holds for the answer to the target
+-- it holds for a packet that goes out exactly if the packet comes from the address and the rule holds for the answer to
+-- the target
 abbrev pub BinatHoldsBothWays : Type 0
 BinatHoldsBothWays =
     (rule : FlatTranslation Ipv4Address) (address target : Ipv4Address) (name : IfName) (tables : List (List Entry)) (packet answer : Packet)

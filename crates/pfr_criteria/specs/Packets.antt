@@ -1,4 +1,4 @@
--- Whether a packet is what a rule or an anchor asks for (pf.conf(5), "Parameters").
+-- Whether a packet meets all criteria of a rule or an anchor (pf.conf(5), "Parameters").
 use Rattle.std.specs.Prelude.{ℕ, ◌==◌, ◌&&◌, Bool, true, false, not, if◌then◌else◌, List, Option, Some, None}
 use Rattle.std.specs.Str.{bytes_eq}
 use Rattle.pfr_net.specs.declared.direction.Direction.{Direction}
@@ -36,7 +36,7 @@ abbrev pub protocol_holds : Option Protocol → ℕ → Bool
 protocol_holds None number = true
 protocol_holds (Some written) number = written.0 == number
 
--- all that is asked of a packet on this interface, where the tables have these entries
+-- all criteria that a packet on the interface `name` must meet, if the tables have these entries
 unfoldable pub match_holds : PacketMatch → IfName → List (List Entry) → Packet → Bool
 match_holds m name tables packet =
     protocol_holds m.protocol packet.protocol.0

@@ -13,7 +13,7 @@ abbrev pub icmp_kind : Transport → Option ℕ
 icmp_kind (t.Icmp header) = Some header.kind.0
 icmp_kind rest = None
 
--- the packet's value of each part that the shape pins; 0 where there is none
+-- the packet's value of each part that the shape pins; 0 if it has none
 unfoldable pub pins_in : Shape → Packet → Pins
 pins_in shape packet = record {
   protocol = value_in shape.protocol (Some packet.protocol.0);

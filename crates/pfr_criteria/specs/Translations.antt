@@ -12,7 +12,7 @@ use Rattle.pfr_ruleset.specs.declared.flat.FlatTranslation.{FlatTranslation}
 use Rattle.pfr_headers.specs.declared.packet.Packet.{Packet}
 use Rattle.pfr_criteria.specs.Packets.{match_holds}
 
--- all that a `nat` or `rdr` rule writes is asked of the packet as it is, behind `no` too
+-- a packet must meet all that a `nat` or `rdr` rule writes, as the packet is, behind `no` too
 abbrev pub translation_holds : {T : Type 0} → FlatTranslation T → IfName → List (List Entry) → Packet → Bool
 translation_holds rule name tables packet = match_holds rule.packet name tables packet
 
@@ -21,13 +21,13 @@ translation_holds rule name tables packet = match_holds rule.packet name tables 
 abbrev pub single : Ipv4Address → HostCriterion
 single address = record { is_negated = false; hosts = set.Network (record { address = address; bits = 32 }) }
 
--- A packet that comes in goes to the address that the rule translates to. What the rule writes at its `to` is asked of the
--- source, and a port at its `from` of the destination.
+-- A packet that comes in must go to the address that the rule translates to. Its source is tested by the rule's `to`,
+-- and its destination port by a port at the rule's `from`.
 abbrev pub turned : Ipv4Address → PacketMatch → PacketMatch
 turned target asked =
     record asked { source = asked.destination; source_port = asked.destination_port; destination = single target; destination_port = asked.source_port }
 
--- what is asked of a packet of a direction; a `no` rule asks the same of all
+-- the criteria that a packet of a direction must meet; those of a `no` rule are the same for both directions
 abbrev pub asked_of : Direction → Option Ipv4Address → PacketMatch → PacketMatch
 asked_of In (Some target) asked = turned target asked
 asked_of In None asked = asked

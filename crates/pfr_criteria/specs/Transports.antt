@@ -1,4 +1,4 @@
--- What is asked of a packet's transport header: ports, TCP flags and ICMP types (pf.conf(5), "Parameters").
+-- The criteria of a packet's transport header: ports, TCP flags and ICMP types (pf.conf(5), "Parameters").
 use Rattle.std.specs.Prelude.{ℕ, ◌==◌, ◌&&◌, ◌||◌, Bool, true, false, not, nat_lt, nat_le, Option, Some, None}
 use Rattle.std.specs.Int.RustNames.{bit_and}
 use Rattle.pfr_ruleset.specs.declared.port.PortMatch.{PortMatch}
@@ -47,7 +47,7 @@ destination_port (t.Tcp header) = Some header.destination.0
 destination_port (t.Udp header) = Some header.destination.0
 destination_port rest = None
 
--- a port that is asked for holds of no packet without one
+-- a packet without ports meets no criterion of a port
 abbrev pub port_asked : Option PortMatch → Option ℕ → Bool
 port_asked None port = true
 port_asked (Some criterion) None = false
@@ -58,8 +58,8 @@ port_asked (Some criterion) (Some port) = port_holds criterion port
 abbrev pub are : TcpFlags → ℕ → ℕ → Bool
 are flags set mask = bit_and flags.0 mask == set
 
--- flags that are written are asked of TCP packets alone, and hold of no part of a packet; the default `S/SA` (2 of 18) isn't
--- asked of one
+-- flags that are written are tested on TCP packets alone, and no fragment meets them; the default `S/SA` (2 of 18)
+-- isn't tested on a fragment
 unfoldable pub flags_hold : FlagsCriterion → Transport → Bool
 flags_hold asked.Any transport = true
 flags_hold (asked.Written set mask) (t.Tcp header) = are header.flags set.0 mask.0

@@ -20,12 +20,12 @@ use pfr_ruleset::{
 #[derive(Clone, Copy)]
 pub enum Answer {
     Holds,
-    /// It fails at nothing by which rules are skipped: at its flags or its ICMP type.
+    /// It fails at its flags or its ICMP type, by which no rules are skipped.
     Fails,
     FailsAt(Criterion),
 }
 
-/// Whether a packet has the flags and is all that is asked for; if not, at which criterion it fails.
+/// Whether a packet has the flags and meets all criteria of `asked`; if not, at which criterion it fails.
 #[inline]
 #[tactic(auto, unfolding(crate::specs::Packets::match_holds))]
 fn ask_match(

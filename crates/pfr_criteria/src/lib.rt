@@ -1,9 +1,11 @@
-//! Whether a packet is what a flat rule or an anchor asks for (pf.conf(5), "Parameters").
+//! Whether a packet meets all criteria of a flat rule or an anchor (pf.conf(5), "Parameters").
 //!
-//! [`rule_holds`] and [`anchor_holds`] hold all that is written against one packet, on one interface and by the entries of
-//! the ruleset's tables. [`ask_rule`] and [`ask_translation`] also say at which criterion a rule fails, and [`pins_in`]
-//! which values a packet has where rules pin one. Nothing here takes memory. A part of a packet that was sent in several
-//! has neither ports nor flags nor an ICMP type that could be asked of it.
+//! A helper of `pfr_rules`, `pfr_packet`, `pfr_shadows` and `pfr_warnings`.
+//!
+//! [`rule_holds`] and [`anchor_holds`] test one packet on one interface, by the entries of the ruleset's tables.
+//! [`ask_rule`] and [`ask_translation`] also say at which criterion a rule fails, and [`pins_in`] which values a packet
+//! has of the parts that rules pin. Nothing here allocates memory. A fragment has neither ports nor flags nor an ICMP
+//! type, so it meets no criterion of them.
 #![tactic(auto)]
 
 pub mod asking;

@@ -20,7 +20,7 @@ pub(crate) fn direction_holds(written: Option<Direction>, direction: Direction) 
     }
 }
 
-/// Whether two names are one.
+/// Whether two names are the same.
 pub fn is_named(name: &IfName, other: &IfName) -> bool
     ensures { result ≡ spec.is_named name.now other.now }
 {
@@ -46,7 +46,7 @@ pub(crate) fn protocol_holds(written: Option<Protocol>, number: u8) -> bool
     }
 }
 
-/// Whether a packet on the interface of this name is all that is asked for, by the tables of the ruleset.
+/// Whether a packet on the interface `name` meets all criteria of `asked`, by the tables of the ruleset.
 #[tactic(auto, unfolding(crate::specs::Packets::match_holds))]
 pub fn match_holds(
     asked: &PacketMatch,

@@ -19,7 +19,7 @@ fn icmp_kind(transport: &Transport) -> Option<u16>
     }
 }
 
-/// A value that a shape pins, and else 0.
+/// The value if the shape pins it, else 0.
 #[inline]
 fn value_of(pins: bool, value: Option<u16>) -> u32
     ensures { result ≡ value_in pins value }
@@ -31,7 +31,7 @@ fn value_of(pins: bool, value: Option<u16>) -> u32
     }
 }
 
-/// What a packet has of the parts that a shape pins: 0 where it has no such part.
+/// The values that a packet has of the parts that a shape pins: 0 for a part that it hasn't.
 #[inline]
 #[tactic(auto, unfolding(crate::specs::Pins::pins_in))]
 pub fn pins_in(shape: &Shape, packet: &Packet) -> Pins

@@ -33,7 +33,7 @@ fn single(address: Ipv4Address) -> HostCriterion
     }
 }
 
-/// Whether a packet that comes in is what is asked for with the ends exchanged, and goes to this address.
+/// Whether a packet that comes in meets all criteria of `asked` with the ends exchanged, and goes to `target`.
 #[tactic(auto, unfolding(crate::specs::Packets::match_holds))]
 fn turned_holds(
     target: Ipv4Address,
@@ -53,9 +53,9 @@ fn turned_holds(
         && host_holds(tables, asked.destination, packet.source)
 }
 
-/// Whether a `binat` rule holds for a packet of a direction. One that goes out is asked as it is, and so is every packet
-/// by a `no` rule. One that comes in has to go to the address that the rule translates to: what the rule writes at its
-/// `to` is asked of the source, and a port at its `from` of the destination.
+/// Whether a `binat` rule holds for a packet of a direction. A packet that goes out is tested as it is, and so is every
+/// packet by a `no` rule. A packet that comes in must go to the address that the rule translates to: its source is
+/// tested by the rule's `to`, and its destination port by a port at the rule's `from`.
 pub fn binat_holds(
     rule: &FlatTranslation<Ipv4Address>,
     name: &IfName,

@@ -72,7 +72,7 @@ fn port_asked(criterion: Option<PortMatch>, port: Option<u16>) -> bool
     }
 }
 
-/// Whether the source port is what is asked for. A packet without ports has none that could be.
+/// Whether the source port meets a criterion. A packet without ports meets none.
 #[inline]
 pub fn source_port_holds(criterion: Option<PortMatch>, transport: &Transport) -> bool
     ensures { result ≡ spec.port_asked criterion (spec.source_port transport.now) }
@@ -80,7 +80,7 @@ pub fn source_port_holds(criterion: Option<PortMatch>, transport: &Transport) ->
     criterion.is_none() || port_asked(criterion, source_port(transport))
 }
 
-/// Whether the destination port is what is asked for. A packet without ports has none that could be.
+/// Whether the destination port meets a criterion. A packet without ports meets none.
 #[inline]
 pub fn destination_port_holds(criterion: Option<PortMatch>, transport: &Transport) -> bool
     ensures { result ≡ spec.port_asked criterion (spec.destination_port transport.now) }
@@ -88,8 +88,8 @@ pub fn destination_port_holds(criterion: Option<PortMatch>, transport: &Transpor
     criterion.is_none() || port_asked(criterion, destination_port(transport))
 }
 
-/// Whether the flags are what is asked for. Written flags are asked of TCP packets alone and hold of no part of a packet;
-/// the default flags aren't asked of one.
+/// Whether the flags meet a criterion. Written flags are tested on TCP packets alone, and no fragment meets them; the
+/// default flags aren't tested on a fragment.
 #[inline]
 #[tactic(auto, unfolding(crate::specs::Transports::flags_hold))]
 pub fn flags_hold(criterion: FlagsCriterion, transport: &Transport) -> bool
@@ -122,7 +122,7 @@ fn icmp_is(criterion: IcmpMatch, transport: &Transport) -> bool
     }
 }
 
-/// Whether the ICMP type and its code are what is asked for.
+/// Whether the ICMP type and its code meet a criterion.
 #[inline]
 #[tactic(auto, unfolding(crate::specs::Transports::icmp_holds))]
 pub fn icmp_holds(criterion: Option<IcmpMatch>, transport: &Transport) -> bool

@@ -69,7 +69,7 @@ pub none_there : (bound : ℕ) (near far : List (Reverse Wait)) → length near 
 none_there bound [] far none from = all_far bound far from
 none_there bound (item ∷ near) far none from = absurd (omega (arith, none))
 
--- the first of the heap, where it is below the bound, is before all
+-- the first of the heap, if it is below the bound, is before all
 pub first_of_both : (bound : ℕ) (near far : List (Reverse Wait)) (first : Reverse Wait) → AllByRecursion (λ other. lt_by_cmp reversed_cmp first other ≡ false) near → first.0.0.0 < bound → All (IsItemFrom bound) far → AllByRecursion (IsBefore first.0) (waits_of (near ++ far))
 first_of_both bound near far first greatest less from =
     recursion_from_All (IsBefore first.0) (waits_of (near ++ far))

@@ -26,7 +26,7 @@ reversed_cmp a b = wait_cmp b.0 a.0
 abbrev pub IsBefore : Wait → Wait → Type 0
 IsBefore a b = is_lt (wait_cmp b a) ≡ false
 
--- what deadlines are to contracts
+-- what contracts see of deadlines
 pub record Waiting : Type 0 where
   pub waits : List Wait
   pub bound : ℕ
@@ -50,16 +50,16 @@ abbrev pub first_below : ℕ → Option Wait → Option Wait
 first_below bound None = None
 first_below bound (Some wait) = if nat_lt wait.0.0 bound then Some wait else None
 
--- another deadline stands for the same state in the place of the first one
+-- the state of the first deadline waits by another deadline in its place
 pub record IsPutOff (first : Wait) (own : Deadline) (old new : List Wait) : Type 0 where
   pub rest : List Wait
   pub before : IsPermutation old (first ∷ rest)
   pub after : IsPermutation ((own, first.1, first.2) ∷ rest) new
 
--- those that have come at a clock
+-- the waits that have come at a clock
 abbrev pub come_at : Clock → List Wait → List Wait
 come_at clock waits = filter (λ wait. nat_le wait.0.0 clock.0) waits
 
--- what a test answers of each is this
+-- for each wait the answer is what the test says
 abbrev pub Decides : (Wait → Bool → Type 0) → (Wait → Bool) → Type 0
 Decides answers test = (wait : Wait) (answer : Bool) → answers wait answer → answer ≡ test wait

@@ -10,7 +10,7 @@ use Rattle.pfr_deadlines.specs.Waits.{IsFrom, Wait}
 abbrev pub Bucket : Type 0
 Bucket = Vec (Reverse Wait) Global
 
--- what a wheel is to contracts
+-- what contracts see of a wheel
 pub record Turning : Type 0 where
   pub items : List (Reverse Wait)
   pub bound : ℕ
@@ -33,25 +33,25 @@ pub record StandsIn (bound index : ℕ) (wait : Reverse Wait) : Type 0 where
 abbrev pub StandRight : ℕ → List Bucket → Type 0
 StandRight bound buckets = (i : ℕ) (d : Bucket) → i < length buckets → All (StandsIn bound i) (slice_index_or buckets i d).items
 
--- each bucket keeps no others than were in it
+-- each bucket keeps only waits that were in it
 abbrev pub ArePart : List Bucket → List Bucket → Type 0
 ArePart fewer all = (length fewer ≡ length all) × ((i : ℕ) (d : Bucket) → IsPart (slice_index_or fewer i d).items (slice_index_or all i d).items)
 
--- the same but for one that may be in a bucket now
+-- the same, except for one wait that may be in a bucket now
 abbrev pub ArePartBut : ℕ → Reverse Wait → List Bucket → List Bucket → Type 0
 ArePartBut index wait after all = (length after ≡ length all) × ((i : ℕ) (d : Bucket) (other : Reverse Wait) → Contains (slice_index_or after i d).items other → Contains (slice_index_or all i d).items other ⊎ ((i ≡ index) × (wait ≡ other)))
 
--- nothing of a bucket comes up before this second
+-- nothing of a bucket comes up before the second `end`
 abbrev pub IsTaken : ℕ → ℕ → List Bucket → Type 0
 IsTaken end index buckets = (d : Bucket) → index < length buckets → All (IsItemFrom end) (slice_index_or buckets index d).items
 
--- nothing of the buckets of the seconds from one up to this one does
+-- nothing of the buckets of the seconds from `from` up to `end` does
 abbrev pub AreTaken : ℕ → ℕ → List Bucket → Type 0
 AreTaken from end buckets = (ahead : ℕ) → ahead < end - from → ahead < 256 → IsTaken end ((from + ahead) % 256) buckets
 
 abbrev pub has_come : Clock → Reverse Wait → Bool
 has_come clock wait = nat_le wait.0.0.0 clock.0
 
--- those that have come at a clock
+-- the waits that have come at a clock
 abbrev pub come_of : Clock → List (Reverse Wait) → List (Reverse Wait)
 come_of clock waits = filter (has_come clock) waits

@@ -1,4 +1,4 @@
-//! When states are looked at: deadlines by which states wait, the first one first.
+//! Deadlines by which states wait, the first one first.
 ghost use Rattle.std.specs.Prelude.{◌≡◌, ◌<◌, [], ◌∷◌, Bool, nat_lt, IfNone, IfSome, OnOk};
 ghost use Rattle.std.specs.List.{All, AllByRecursion, FoldsTo, filter};
 ghost use Rattle.std.specs.List.Sorted.{IsPermutation};
@@ -13,23 +13,23 @@ use std::cmp::Reverse;
 use std::collections::BinaryHeap;
 use std::marker::Model;
 
-/// How many deadlines there may be before those are looked for by which no state waits any more.
+/// Deadlines by which no state waits are looked for only if there are more than twice as many deadlines as this.
 const FEW: usize = 64;
 
-/// Deadlines by which states wait. Contracts see them in no order, but for the first below a bound, with that bound and how
-/// many more there is room for.
+/// Deadlines by which states wait. Contracts see them in no order except for the first one below a bound. They also see
+/// that bound, and how many more deadlines there is room for.
 ///
-/// Those that come up later turn in a wheel, each second in a bucket of its own. When a clock reaches their second they move
-/// into a heap, which gives them in order. So what a second costs hangs on the deadlines of that second and on those of its
-/// bucket that lie further ahead, and not on how many there are. What the wheel doesn't take stands in the heap at once: a
-/// deadline that has come, or one for which memory is refused.
+/// Later deadlines turn in a wheel, each second in a bucket of its own. When a clock reaches their second they move
+/// into a heap, which gives them in order. So the cost of a second depends on the deadlines of that second and on those
+/// of its bucket that lie further ahead, and not on the number of all deadlines. A deadline that the wheel doesn't take
+/// is put into the heap at once: one that has come, or one for which memory is refused.
 #[derive(Drop)]
 pub struct Deadlines {
     near: BinaryHeap<Reverse<Wait>>,
     wheel: Wheel,
-    /// How many there are.
+    /// The number of deadlines.
     count: usize,
-    /// How many there were when those were dropped last by which no state waited.
+    /// The number of deadlines when those by which no state waited were last dropped.
     kept: usize,
 }
 
@@ -58,7 +58,7 @@ impl Deadlines {
         }
     }
 
-    /// How many deadlines at most come up below the bound.
+    /// The number of deadlines that come up below the bound, at most.
     #[inline]
     pub fn near_count(&self) -> usize {
         self.near.len()
@@ -104,7 +104,7 @@ impl Deadlines {
         u64::from(clock.0) < self.wheel.bound()
     }
 
-    /// Moves the bound behind a clock, where memory isn't refused.
+    /// Moves the bound behind a clock, if memory isn't refused.
     #[inline]
     pub fn advance(&mut self, clock: Clock)
         ensures { IsPermutation self.old.waits self.new.waits }
@@ -114,7 +114,7 @@ impl Deadlines {
         }
     }
 
-    /// The first deadline below the bound, and of one deadline that of the least number.
+    /// The first deadline below the bound; of equal deadlines the one with the least number.
     #[inline]
     pub fn first(&self) -> Option<Wait>
         ensures below { result ≡ spec.first_below self.now.bound (spec.head self.now.waits) }
@@ -140,7 +140,7 @@ impl Deadlines {
         self.count = self.count.saturating_sub(1);
     }
 
-    /// Puts another deadline in the place of the first, for the same state. It can't fail.
+    /// Replaces the first deadline by another one, for the same state. It can't fail.
     pub fn put_off(&mut self, own: Deadline)
         ensures { IfSome (spec.first_below self.old.bound (spec.head self.old.waits)) (λ first. spec.IsPutOff first own self.old.waits self.new.waits) }
     {
@@ -152,13 +152,13 @@ impl Deadlines {
         self.put((own, number, place));
     }
 
-    /// Whether there are more than twice as many as states, and as were left when those were dropped last by which no state
-    /// waited.
+    /// Whether there are more than twice as many deadlines as states, as [`FEW`], and as were left when those by which
+    /// no state waited were last dropped.
     pub fn are_many(&self, states: usize) -> bool {
         self.count / 2 > self.kept.max(states).max(FEW)
     }
 
-    /// Keeps those of which a test says that a state waits by them.
+    /// Keeps the deadlines for which a test says that a state waits by them.
     pub fn sweep<F: Fn(Wait) -> bool>(&mut self, is_kept: F)
         requires { F.IsAlwaysCallable is_kept }
         ensures { (test : Wait → Bool) → spec.Decides (F.post is_kept) test → IsPermutation (filter test self.old.waits) self.new.waits }
@@ -169,7 +169,8 @@ impl Deadlines {
         self.kept = self.count;
     }
 
-    /// Goes through the deadlines that have come at a clock, in no order. The step gets what the one before it answered.
+    /// Goes through the deadlines that have come at a clock, in no order. The step gets what the step before it
+    /// answered.
     ///
     /// It looks at those below the bound, and at the buckets of the seconds from the bound up to the clock.
     pub fn fold_come<B, F: Fn(B, Wait) -> B>(&self, clock: Clock, start: B, step: F) -> B

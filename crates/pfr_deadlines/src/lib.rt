@@ -1,5 +1,5 @@
-//! Deadlines by which states wait: any one is added, the first is known, and what has come is gone through without a look at
-//! the others.
+//! A helper of `pfr_states`: deadlines by which states wait. A deadline is added at any time, and the first one is
+//! known. The deadlines that have come are gone through without a look at the others.
 #![tactic(auto)]
 
 pub mod deadlines;

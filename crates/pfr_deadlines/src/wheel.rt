@@ -13,14 +13,14 @@ use std::cmp::Reverse;
 use std::collections::BinaryHeap;
 use std::marker::Model;
 
-/// How many buckets there are.
+/// The number of buckets.
 const BUCKETS: u64 = 256;
 
-/// Waits in buckets by the second at which they come up: one of a deadline stands in the bucket of the deadline's
-/// remainder. Contracts see them in no order, with a bound below which none of them has its deadline.
+/// Waits in buckets by the second at which they come up: a wait stands in the bucket of the remainder of its deadline.
+/// Contracts see the waits in no order, with a bound; no wait has a deadline below it.
 ///
-/// Each second one bucket is gone through. So a wait that lies more laps ahead is looked at once in [`BUCKETS`] seconds, and
-/// stays where it is.
+/// Each second one bucket is gone through. A wait that lies more laps ahead is looked at once in [`BUCKETS`] seconds,
+/// and stays in its bucket.
 #[derive(Drop)]
 pub(crate) struct Wheel {
     alloc: Global,
@@ -39,7 +39,8 @@ impl Model for Wheel {
     ghost invariant = { λ w. StandRight w.bound w.buckets.items };
 }
 
-/// Moves those out of a bucket into the heap that come up before this second. Where memory is refused the others stay.
+/// Moves the waits of a bucket that come up before the second `end` into the heap. If memory is refused, the others
+/// stay.
 fn take_before(
     bucket: &mut Vec<Reverse<Wait>>,
     end: u64,
@@ -63,7 +64,7 @@ fn take_before(
     Ok(())
 }
 
-/// The same with the bucket of an index, where it is there.
+/// The same with the bucket at an index, if there is one.
 fn take_at(
     buckets: &mut Vec<Vec<Reverse<Wait>>>,
     index: usize,
@@ -81,7 +82,7 @@ fn take_at(
     take_before(&mut buckets[index], end, near)
 }
 
-/// The same with the buckets of the seconds from one up to this one.
+/// The same with the buckets of the seconds from `from` up to `end`.
 fn take_seconds(
     buckets: &mut Vec<Vec<Reverse<Wait>>>,
     from: u64,
@@ -100,7 +101,7 @@ fn take_seconds(
     Ok(())
 }
 
-/// Puts a wait into the bucket of an index, where that is there and memory isn't refused, and says whether it has.
+/// Puts a wait into the bucket at an index, if there is one and memory isn't refused. Says whether it has.
 fn put_at(buckets: &mut Vec<Vec<Reverse<Wait>>>, index: usize, wait: Reverse<Wait>) -> bool
     ensures done { result ≡ true → IsPermutation (wait ∷ spec.items_of buckets.old.items) (spec.items_of buckets.new.items) }
     ensures kept { result ≡ false → spec.items_of buckets.new.items ≡ spec.items_of buckets.old.items }
@@ -112,7 +113,7 @@ fn put_at(buckets: &mut Vec<Vec<Reverse<Wait>>>, index: usize, wait: Reverse<Wai
     buckets[index].push(wait).is_ok()
 }
 
-/// So many buckets as there are to be, with nothing in them.
+/// [`BUCKETS`] empty buckets.
 fn empty_buckets(alloc: Global) -> Result<Vec<Vec<Reverse<Wait>>>, AllocError>
     ensures { IfOk result (λ buckets. spec.items_of buckets.items ≡ []) }
 {
@@ -123,7 +124,7 @@ fn empty_buckets(alloc: Global) -> Result<Vec<Vec<Reverse<Wait>>>, AllocError>
     Ok(buckets)
 }
 
-/// Keeps those of a bucket of which a test says so.
+/// Keeps the waits of a bucket for which a test answers true.
 fn sweep_bucket<F: Fn(Wait) -> bool>(bucket: &mut Vec<Reverse<Wait>>, is_kept: &F)
     requires { F.IsAlwaysCallable is_kept.now }
     ensures items { (test : Wait → Bool) → Decides (F.post is_kept.now) test → bucket.new.items ≡ filter (λ wait. test wait.0) bucket.old.items }
@@ -143,7 +144,7 @@ fn sweep_buckets<F: Fn(Wait) -> bool>(buckets: &mut Vec<Vec<Reverse<Wait>>>, is_
     }
 }
 
-/// Whether a wait in the bucket of an index can have come at a clock, where none has its deadline below a bound.
+/// Whether a wait in the bucket of an index can have come at a clock, if no deadline in the bucket is below the bound.
 fn may_have_come(bound: u64, index: u64, clock: Clock) -> bool
     ensures { result ≡ false → (wait : Reverse Wait) → spec.StandsIn bound index wait → spec.has_come clock wait ≡ false }
 {
@@ -152,7 +153,7 @@ fn may_have_come(bound: u64, index: u64, clock: Clock) -> bool
     bound <= clock && ahead <= clock - bound
 }
 
-/// Goes through the waits of a bucket that have come. The step gets what the one before it answered.
+/// Goes through the waits of a bucket that have come. The step gets what the step before it answered.
 pub(crate) fn fold_bucket<B, F: Fn(B, Wait) -> B>(
     bucket: &[Reverse<Wait>],
     clock: Clock,
@@ -184,7 +185,7 @@ impl Wheel {
         }
     }
 
-    /// Makes the buckets, where there are none yet.
+    /// Makes the buckets, if there are none yet.
     #[inline]
     pub(crate) fn reserve(&mut self) -> Result<(), AllocError>
         ensures { self.new.items ≡ self.old.items }
@@ -204,7 +205,7 @@ impl Wheel {
         self.bound
     }
 
-    /// How many waits there are.
+    /// The number of waits.
     pub(crate) fn count(&self) -> usize {
         let mut count: usize = 0;
         for bucket in &self.buckets {
@@ -213,7 +214,7 @@ impl Wheel {
         count
     }
 
-    /// Puts a wait into its bucket, where its deadline isn't below the bound and memory isn't refused, and says whether it
+    /// Puts a wait into its bucket, if its deadline isn't below the bound and memory isn't refused. Says whether it
     /// has.
     #[inline]
     pub(crate) fn put(&mut self, wait: Wait) -> bool
@@ -232,8 +233,8 @@ impl Wheel {
         )
     }
 
-    /// Moves the waits that have come into the heap, and the bound behind the clock. Where memory is refused those that
-    /// haven't moved stay, and the bound stays where it is.
+    /// Moves the waits that have come into the heap, and the bound behind the clock. If memory is refused, the waits
+    /// that haven't moved stay, and the bound stays as it is.
     pub(crate) fn advance(&mut self, clock: Clock, near: &mut BinaryHeap<Reverse<Wait>>)
         ensures heap { IsHeap reversed_cmp (heap_items near.old) → IsHeap reversed_cmp (heap_items near.new) }
         ensures same { IsPermutation (heap_items near.old ++ self.old.items) (heap_items near.new ++ self.new.items) }
@@ -247,7 +248,7 @@ impl Wheel {
         }
     }
 
-    /// Keeps those of which a test says so.
+    /// Keeps the waits for which a test answers true.
     pub(crate) fn sweep<F: Fn(Wait) -> bool>(&mut self, is_kept: &F)
         requires { F.IsAlwaysCallable is_kept.now }
         ensures { (test : Wait → Bool) → Decides (F.post is_kept.now) test → self.new.items ≡ filter (λ wait. test wait.0) self.old.items }
@@ -255,7 +256,7 @@ impl Wheel {
         sweep_buckets(&mut self.buckets, is_kept);
     }
 
-    /// Goes through the waits that have come at a clock. The step gets what the one before it answered.
+    /// Goes through the waits that have come at a clock. The step gets what the step before it answered.
     pub(crate) fn fold_come<B, F: Fn(B, Wait) -> B>(&self, clock: Clock, start: B, step: &F) -> B
         requires { F.IsAlwaysCallable step.now }
         ensures { FoldsTo (λ before wait after. F.post step.now before wait.0 after) start (spec.come_of clock self.now.items) result }

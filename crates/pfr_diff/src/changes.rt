@@ -11,7 +11,7 @@ use std::collections::BTreeMap;
 pub(crate) struct Change<'a> {
     /// The place of the interface.
     pub(crate) place: u8,
-    /// The flow, as its first packet has it that changes.
+    /// The flow, as its first changed packet has it.
     pub(crate) flow: Flow,
     pub(crate) old: Decision<'a>,
     pub(crate) new: Decision<'a>,
@@ -20,7 +20,7 @@ pub(crate) struct Change<'a> {
     pub(crate) first: u64,
 }
 
-/// By what changed packets are gathered.
+/// The key by which changed packets are gathered.
 #[derive(Clone, Copy, PartialEq, Eq, PartialOrd, Ord)]
 struct Key<'a> {
     place: u8,
@@ -48,7 +48,8 @@ pub struct Changes<'a> {
     pub(crate) list: Vec<Change<'a>>,
     /// The places in the list.
     places: BTreeMap<Key<'a>, usize>,
-    /// Flows that change, as the first packet of each has it, by their interfaces and whichever way they go.
+    /// The flows with changed packets, as the first such packet of each has it, by interface and by the flow for both
+    /// ways.
     flows: BTreeMap<(u8, Flow), Flow>,
     /// How many packets change.
     pub(crate) changed: u64,
@@ -66,7 +67,7 @@ impl<'a> Changes<'a> {
         }
     }
 
-    /// Whether a packet changes that comes to these.
+    /// Whether a packet changes that comes to `old` in the old run and to `new` in the new one.
     fn is_change(&self, old: &Meaning<'a>, new: &Meaning<'a>) -> bool {
         if self.verdicts_alone {
             old.differs_in_verdict(new)
@@ -75,7 +76,7 @@ impl<'a> Changes<'a> {
         }
     }
 
-    /// The flow of a packet that changes, as its first packet has it.
+    /// The flow of a changed packet, as the first changed packet of the flow has it.
     fn first_way(&mut self, place: u8, flow: Flow) -> Result<Flow, AllocError> {
         let key = (place, flow.either_way());
         if let Some(first) = self.flows.get(&key) {

@@ -33,7 +33,8 @@ pub struct Compared<'a> {
 /// Why runs aren't compared.
 #[derive(Drop)]
 pub enum Stopped {
-    /// A capture is refused, or can't be read, behind so many packets. No stop is for a ruleset or an output.
+    /// A capture is refused, or can't be read, behind the packets that the stop counts. No stop is for a ruleset or an
+    /// output.
     Reading(Stop),
     /// Memory was refused.
     Memory,
@@ -90,7 +91,7 @@ fn next_line<'a>(lines: &mut &'a [u8], number: u64) -> Result<&'a [u8], Stopped>
     }
 }
 
-/// Compares what both runs wrote of the packets that they took last, of which the first is the one behind so many.
+/// Compares what both runs wrote of `packets`, which they took last, behind `taken` others.
 fn gather<'a>(
     alloc: Global,
     before: &Side,
@@ -116,7 +117,8 @@ fn gather<'a>(
 }
 
 impl<'a> Both<'a> {
-    /// Has both runs take packets, and compares what they write of them. A gate is told what they come to in the new run.
+    /// Has both runs take packets, and compares what they write of them. A gate is told what they come to in the new
+    /// run.
     fn take<G: Gate>(
         &mut self,
         alloc: Global,
@@ -165,7 +167,8 @@ fn take_records<G: Gate>(
     Ok(())
 }
 
-/// Reads the next packets of captures, and has both runs take them. If the reading has ended then, it answers how the captures end.
+/// Reads the next packets of captures, and has both runs take them. If the reading ends with them, it answers how the
+/// captures end.
 fn take_turn<R: Source, G: Gate>(
     alloc: Global,
     merge: &mut Merge,
@@ -234,8 +237,9 @@ fn concluded<'a>(both: Both<'a>, end: Result<Tail, Stopped>) -> Result<Compared<
     }
 }
 
-/// Has two runs that have taken no packet take the packets of captures, and gathers those of which they write something else, or
-/// another verdict alone. A gate is told what the packets come to in the new one.
+/// Has two runs that have taken no packet take the packets of captures, and gathers the packets for which they write
+/// something else. With `verdicts_alone` it gathers only those with another verdict. A gate is told what the packets
+/// come to in the new run.
 pub fn compare<'a, R: Source, G: Gate>(
     alloc: Global,
     sources: &mut Sources<R>,

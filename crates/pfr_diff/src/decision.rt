@@ -24,7 +24,7 @@ fn rule_at<'a>(rules: &[RuleTold<'a>], number: Option<RuleNumber>) -> Option<Rul
     rules.get(number).copied()
 }
 
-/// The reason, if it is told: that a rule decided, or a state, shows by the rule.
+/// The reason, if it is told. If a rule or a state decided, the rule shows it.
 fn told_reason(reason: Reason) -> Option<&'static [u8]> {
     match reason {
         Reason::Rule | Reason::State | Reason::StateError | Reason::NatPass => None,

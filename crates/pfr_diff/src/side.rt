@@ -16,7 +16,7 @@ use std::sync::Arc;
 #[derive(Drop)]
 pub struct Side {
     pub book: Book,
-    /// What the packets add that it took last.
+    /// What the packets add that the run took last.
     pub emitted: Emitted,
 }
 
@@ -34,8 +34,8 @@ impl Side {
         })
     }
 
-    /// Takes the next packets. What is emitted then is what a run with the side's ruleset writes of them behind what it has written
-    /// before. A gate is told what they come to.
+    /// Takes the next packets. What is emitted then is what a run with the side's ruleset writes of them behind what it
+    /// has written before. A gate is told what they come to.
     pub fn take<G: Gate>(&mut self, packets: &[(Record, View)], gate: &G) -> Result<(), AllocError>
         requires views { All (λ packet. packet.1 ≡ view_of packet.0.link packet.0.bytes.items) packets.now }
         requires few { self.old.book.count + length packets.now ≤ 2 ^ 43 }

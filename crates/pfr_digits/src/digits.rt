@@ -6,7 +6,7 @@ ghost use Rattle.std.specs.Fmt.{decimal};
 static PAIRS: [u8; 200] =
     *b"00010203040506070809101112131415161718192021222324252627282930313233343536373839404142434445464748495051525354555657585960616263646566676869707172737475767778798081828384858687888990919293949596979899";
 
-/// Writes both digits of a number below 100.
+/// Writes both digits of `pair`, a number below 100, at `start`.
 #[inline(always)]
 fn write_pair(pair: u64, text: &mut [u8], start: usize)
     requires { (pair < 100) × (start + 2 ≤ length text.old) }
@@ -18,7 +18,7 @@ fn write_pair(pair: u64, text: &mut [u8], start: usize)
     text[start + 1] = ones;
 }
 
-/// Writes the one or two digits of a number below 100 so that they end at a place, and answers where they begin.
+/// Writes the one or two digits of a number below 100 so that they end at `end`, and answers where they begin.
 #[inline(always)]
 fn write_first(number: u64, text: &mut [u8], end: usize) -> usize
     requires { (number < 100) × (length (decimal number) ≤ end) × (end ≤ length text.old) }
@@ -33,7 +33,7 @@ fn write_first(number: u64, text: &mut [u8], end: usize) -> usize
     end - 2
 }
 
-/// Writes the digits of a number so that they end at a place, and answers where they begin.
+/// Writes the digits of a number so that they end at `end`, and answers where they begin.
 #[inline]
 pub(crate) fn write_digits(number: u64, text: &mut [u8], end: usize) -> usize
     requires { (length (decimal number) ≤ end) × (end ≤ length text.old) }

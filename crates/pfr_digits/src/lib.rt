@@ -1,7 +1,7 @@
-//! Short texts, written from their end to their beginning: so do the digits of a number come, two at a time.
+//! Short texts of words and numbers, written from their end to their beginning: a number gives its last digits first.
 //!
-//! A [`Tail`] is the end of a text that has a greatest length. What stands before it is put in one piece after the other, and
-//! then the whole is taken as bytes. Nothing is formatted, and no memory is asked for.
+//! A [`Tail`] is the end of a text of at most 160 bytes. One piece after the other is put before it, and then the whole
+//! is read as bytes. Nothing is formatted, and no memory is allocated.
 #![tactic(auto)]
 
 mod digits;

@@ -27,7 +27,7 @@ impl Model for Tail {
 }
 
 impl Tail {
-    /// Nothing yet.
+    /// The empty text.
     #[inline]
     pub fn new() -> Tail
         ensures { result ≡ [] }
@@ -65,7 +65,7 @@ impl Tail {
         requires room { 20 + length self.old ≤ 160 }
         ensures text { self.new ≡ decimal number ++ self.old }
         ensures long { length self.new ≤ 20 + length self.old }
-        // as each number of 32, of 16 and of 8 bits
+        // numbers of 32, 16 and 8 bits are below these bounds
         ensures short { number < 10 ^ 10 → length self.new ≤ 10 + length self.old }
         ensures shorter { number < 10 ^ 5 → length self.new ≤ 5 + length self.old }
         ensures shortest { number < 10 ^ 3 → length self.new ≤ 3 + length self.old }

@@ -139,7 +139,8 @@ with_list_by None keeps turned items found =
 abbrev pub turned_if : {A : Type 0} → Bool → (A → A) → A → A
 turned_if is_negated turned x = if is_negated then turned x else x
 
--- the things of a value, which count for one more than a list may have where they are more; where nothing is made of the list they are only counted
+-- the things of a value; more than a list may have count as one more than that; if nothing is made of the list, they
+-- are only counted
 abbrev pub with_list : {A B : Type 0} → Kind A B → ListUse → ListMeaning B → E.Elements B → E.Elements B
 with_list kind used meant found =
     with_list_by (fault_at used.line used.defined meant) used.keeps (turned_if used.is_negated kind.turned) meant.items found

@@ -78,7 +78,7 @@ host_meaning scope (h.InterfaceMacro found) = network_set (used_form scope found
 
 -- ---- addresses of rules
 
--- a table by its place, where so many are defined
+-- a table by its place; the first `defined` tables are defined so far
 abbrev pub table_by : Name → ℕ → Option ℕ → Result HostSet ConfError
 table_by name defined (Some place) = if nat_lt place defined then Ok (set.Table place) else Err (undefined_table name.line)
 table_by name defined None = Err (undefined_table name.line)

@@ -21,7 +21,7 @@ masked network = record { address = record { 0 = prefix network.bits network.add
 abbrev pub is_named : Interface → List ℕ → Bool
 is_named interface word = nat_le (length word) 15 && bytes_eq (if_name word).bytes interface.name.bytes
 
--- whether a word is the interface's name and this behind it
+-- whether a word is the interface's name with this end behind it
 unfoldable pub is_named_with : Interface → List ℕ → List ℕ → Bool
 is_named_with interface end word =
     nat_le (length end) (length word)

@@ -36,7 +36,7 @@ list_meanings scope ws = record {
   ports = listed port_kind scope ws;
 }
 
--- where these are the lists that words mean, this is what the words mean as a list of one kind
+-- if words mean these lists, this is what the words mean as a list of one kind
 abbrev pub IsListOf : {A B : Type 0} → Kind A B → ListMeanings → ListMeaning B → Type 0
 IsListOf kind meanings found = (scope : Scope) (ws : List Word) → meanings ≡ list_meanings scope ws → found ≡ listed kind scope ws
 
@@ -63,7 +63,7 @@ abbrev pub definition_by : Scope → Value → Definition
 definition_by scope (TooLong is_list) = d.TooLong is_list
 definition_by scope (Text text) = text_definition text (text_meanings scope text)
 
--- what a value means where all tables of the ruleset are defined
+-- what a value means if all tables of the ruleset are defined
 unfoldable pub definition_of : Scope → Value → Definition
 definition_of scope value = definition_by (record scope { defined = length scope.tables }) value
 

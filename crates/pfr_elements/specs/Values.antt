@@ -26,7 +26,7 @@ abbrev pub Makes : {A : Type 0} → A → Result A ConfError → Type 0
 Makes made (Ok a) = a ≡ made
 Makes made (Err e) = e.kind ≡ Memory
 
--- the same for what this fault comes to, which isn't that memory was refused
+-- the same for what a fault comes to; the fault isn't that memory was refused
 abbrev pub MakesUnless : {A : Type 0} → ConfError → A → Result A ConfError → Type 0
 MakesUnless fault made (Ok a) = (fault.kind ≢ Memory) × (a ≡ made)
 MakesUnless fault made (Err e) = e.kind ≡ Memory
@@ -54,7 +54,7 @@ abbrev pub sound_by : (ℕ → Bool) → Option ℕ → Bool
 sound_by more None = false
 sound_by more (Some depth) = more depth
 
--- whether all words may stand in a value, where so many braces are open before them
+-- whether all words may stand in a value, if `depth` braces are open before them
 abbrev pub are_sound : ℕ → List Word → Bool
 are_sound depth [] = true
 are_sound depth (w ∷ ws) = sound_by (λ d. are_sound d ws) (depth_behind depth w.token)
@@ -99,7 +99,7 @@ unfoldable pub with_text : List ℕ → Draft → Draft
 with_text text draft = record draft { value = with_text_behind text draft.value }
 
 -- whether the text of a macro may still be put behind another: a value that holds those of others has at most 2^20
--- bytes, and all together hold at most 2^22 of such
+-- bytes, and all values together hold at most 2^22 bytes of others
 abbrev pub fits : List ℕ → List ℕ → ℕ → Bool
 fits before text spliced = nat_le (length before + length text) 1048576 && nat_le (spliced + length text) 4194304
 
@@ -134,7 +134,7 @@ begun macros = record { value = Text []; spliced = macros.spliced }
 
 -- ---- uses
 
--- the word of a value with the suffix of a use; so long a word is none that may have one
+-- the word of a value with the suffix of a use; a word that is too long may have none
 abbrev pub with_suffix : MacroUse → Option (List ℕ) → Result Taken ConfError
 with_suffix found None = Err (unknown_word found.line)
 with_suffix found (Some word) = if nat_lt 255 (length word) then Err (unknown_word found.line) else Ok (taken.Word (word ++ found.suffix))

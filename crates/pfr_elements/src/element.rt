@@ -23,8 +23,8 @@ use std::mem::{drop, replace};
 /// The most elements that a list may have.
 pub const MOST_ELEMENTS: usize = 1048576;
 
-/// What a list comes to: what its elements mean, the first fault of one, and how many there are. One at fault counts
-/// as one.
+/// What a list comes to: what its elements mean, the first fault of one, and how many there are. An element at fault
+/// counts as one.
 #[derive(Drop)]
 pub struct Elements<T> {
     pub items: Items<T>,
@@ -63,7 +63,7 @@ pub trait Element: Sized {
         ensures value { result.now ≡ kind.list_in meanings.now }
         ensures read { IsListOf kind meanings.now result.now };
 
-    /// Reads one in the value of a macro, and says what it means; of one at fault nothing.
+    /// Reads one in the value of a macro, and says what it means; `None` if it is at fault.
     fn read_one(
         alloc: Global,
         scope: &Scope<'_>,
@@ -114,7 +114,7 @@ fn put_item<T: Element>(
     Ok(())
 }
 
-/// Puts what the things of a value mean behind the others, up to the closing brace, of which there is at least one.
+/// Puts what the things of a value, at least one, mean behind the others, up to the closing brace.
 #[tactic(auto, using(pfr_terms::proofs::Turns::one_turn, pfr_terms::proofs::Turns::no_turn))]
 fn put_members<T: Element>(
     alloc: Global,
@@ -165,7 +165,8 @@ pub(crate) fn value_items<T: Element>(
     put_items::<T>(alloc, scope, reader, &mut found).and(Ok(found))
 }
 
-/// What the one thing of a value means at this fault, unless memory was refused. It stands on the line of the use.
+/// What the one thing of a value means at this fault, unless memory was refused. The fault stands on the line of the
+/// use.
 pub(crate) fn one_fault<T>(line: usize, fault: ConfError) -> Result<Result<T, ConfError>, ConfError>
     ensures { MakesUnless fault (Err (spec.at_line line fault)) result }
 {
@@ -264,7 +265,7 @@ fn tables_of<T: Element>(items: &[T::Flat]) -> usize
     most
 }
 
-/// What a value means at this fault, unless memory was refused.
+/// What a value with this fault means, unless memory was refused.
 fn faulty<T>(alloc: Global, fault: ConfError) -> Result<ListMeaning<T>, ConfError>
     ensures { MakesUnless fault (spec.faulty fault) result }
 {
@@ -297,7 +298,7 @@ pub(crate) fn list_meaning<T: Element>(
     }
 }
 
-/// The fault of a value that is used as a list on this line, where so many tables are defined.
+/// The fault of a value that is used as a list on this line, with `defined` tables defined so far.
 fn fault_at<T>(
     alloc: Global,
     line: usize,
@@ -317,8 +318,8 @@ fn fault_at<T>(
     }
 }
 
-/// How a list is used: on which line, where so many tables are defined, whether behind a `!`, and whether something is
-/// made of its things.
+/// How a list is used: on which line, with how many tables defined so far, whether behind a `!`, and whether something
+/// is made of its things.
 #[derive(Clone, Copy)]
 struct ListUse {
     line: usize,
@@ -327,7 +328,7 @@ struct ListUse {
     keeps: bool,
 }
 
-/// Puts the things of a value behind the other elements, or counts them where nothing is made of them.
+/// Puts the things of a value behind the other elements, or counts them if nothing is made of them.
 fn add_list<T: Element>(
     alloc: Global,
     found: &mut Elements<T::Flat>,
@@ -380,7 +381,7 @@ fn add_word<T: Element>(
     added
 }
 
-/// The elements that what a use stands for means.
+/// The elements of what a use stands for.
 fn add_taken<T: Element>(
     alloc: Global,
     scope: &Scope<'_>,
@@ -434,7 +435,8 @@ fn add_use<T: Element>(
     }
 }
 
-/// One more element of a list. Where nothing is made of the list, what macros stand for is only counted.
+/// One more element of a list. If nothing is made of the list (`keeps` is false), what macros stand for is only
+/// counted.
 #[tactic(auto, unfolding(crate::specs::Elements::with_element))]
 pub fn add_element<T: Element>(
     alloc: Global,
@@ -477,8 +479,8 @@ fn put_elements<T: Element>(
     Ok(())
 }
 
-/// The elements of a list. Those behind the one that is too many aren't looked at. Where nothing is made of the list,
-/// what macros stand for is only counted.
+/// The elements of a list. Those behind the one that is too many aren't looked at. If nothing is made of the list
+/// (`keeps` is false), what macros stand for is only counted.
 pub fn elements_of<T: Element>(
     alloc: Global,
     scope: &Scope<'_>,

@@ -39,7 +39,7 @@ fn form_meaning(
     }
 }
 
-/// What the one name means that is the value of a macro.
+/// What a name that is the whole value of a macro means.
 #[tactic(auto, unfolding(crate::specs::Hosts::value_form))]
 fn value_form(
     alloc: Global,
@@ -83,7 +83,7 @@ fn text_form(
     form_read(alloc, interfaces, line, value.as_slice())
 }
 
-/// What that which a use stands for means in round brackets.
+/// What `taken`, for which a use stands, means in round brackets.
 fn taken_form(
     alloc: Global,
     interfaces: &[Interface],
@@ -114,7 +114,7 @@ fn used_form(
     }
 }
 
-/// The network that is meant, if one is.
+/// The network that is meant, or the fault of the meaning.
 fn network_set(meaning: Result<Net, ConfError>) -> Result<HostSet, ConfError>
     ensures { result ≡ spec.network_set meaning }
 {
@@ -194,7 +194,7 @@ fn criterion(
     Ok(with_sign(found.is_negated, meaning))
 }
 
-/// The same with a `!`.
+/// The same addresses behind a `!`.
 fn turned(hosts: HostCriterion) -> HostCriterion
     ensures { result ≡ spec.host_turned hosts }
 {

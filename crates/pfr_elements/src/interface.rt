@@ -31,7 +31,7 @@ fn is_named(interface: &Interface, word: &[u8]) -> bool
         && IfName::new(word).bytes.as_slice() == interface.name.bytes.as_slice()
 }
 
-/// Whether a word is the interface's name and this behind it.
+/// Whether a word is the interface's name with `end` behind it.
 #[tactic(auto, unfolding(crate::specs::Interfaces::is_named_with))]
 fn is_named_with(interface: &Interface, end: &[u8], word: &[u8]) -> bool
     ensures { result ≡ spec.is_named_with interface.now end.now word.now }
@@ -60,7 +60,7 @@ fn form_of(interface: &Interface, word: &[u8]) -> Option<Net>
     }
 }
 
-/// What a word means as a form of the first of the interfaces of which it is one.
+/// What a word means as a form of an interface; of several interfaces the first counts.
 pub fn first_form(interfaces: &[Interface], word: &[u8]) -> Option<Net>
     ensures { result ≡ spec.first_form interfaces.now word.now }
 {

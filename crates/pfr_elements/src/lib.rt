@@ -1,7 +1,8 @@
-//! What the lists of a ruleset come to, once its macros, its tables and the run's interfaces are known.
+//! What the lists of a ruleset come to, once its macros, its tables and the run's interfaces are known. A helper of
+//! `pfr_flat` and `pfr_expand`.
 //!
-//! A list stands in a statement as it is written. [`elements_of`] gives each of its elements a meaning:
-//! a word that is an interface form its address, a table's name its place, the use of a macro all elements of its value.
+//! A list stands in a statement as it is written. [`elements_of`] gives each of its elements a meaning: a form of an
+//! interface means its address, a table's name its place, the use of a macro all elements of its value.
 //! Where one address has to stand, [`written_single`] and [`single_sources`] say which, and leave out more than one.
 #![tactic(auto)]
 

@@ -64,7 +64,7 @@ fn with_suffix<'m>(
     }
 }
 
-/// What a use of a macro stands for that has this text.
+/// What a use of a macro with this text stands for.
 fn text_taken<'m>(
     alloc: Global,
     found: &MacroUse<'_>,
@@ -132,7 +132,8 @@ impl<'a> Macros<'a> {
         }
     }
 
-    /// Defines a macro, in the place of an earlier one of this name. All definitions hold so many bytes of others' values.
+    /// Defines a macro, in the place of an earlier one of this name. All definitions then hold `spliced` bytes of
+    /// others' values.
     pub(crate) fn define(
         &mut self,
         name: Bytes<'a>,

@@ -50,7 +50,7 @@ impl<'a> Names<'a> {
         self.places.get(name).copied()
     }
 
-    /// Puts a name at the end. Where memory is refused the names are as before.
+    /// Puts a name at the end. If memory is refused, the names are as before.
     pub fn push(&mut self, name: Bytes<'a>) -> Result<(), AllocError>
         ensures pushed { OnOk result (self.new ≡ self.old ++ name.entry ∷ []) }
         ensures kept { OnErr result (self.new ≡ self.old) }

@@ -213,7 +213,7 @@ fn single_of(meanings: &Meanings, has_tables: bool) -> &Result<Ipv4Address, Conf
     }
 }
 
-/// The address that what a use stands for means.
+/// The address that `taken`, for which a use stands, means.
 fn taken_single(
     alloc: Global,
     scope: &Scope<'_>,
@@ -289,7 +289,7 @@ fn source_single(
     }
 }
 
-/// What a packet's source is held against by the address it has to be.
+/// The criterion of a source that has to be this address.
 fn criterion_of(address: Result<Ipv4Address, ConfError>) -> Result<HostCriterion, ConfError>
     ensures { result ≡ spec.criterion_of address }
 {

@@ -18,7 +18,7 @@ fn has_comment(text: &[u8]) -> bool
     false
 }
 
-/// How many braces are open behind a sign, or none where it closes one that isn't open.
+/// How many braces are open behind a sign; `None` if it closes one that isn't open.
 fn depth_behind_sign(depth: usize, token: &Token<'_>) -> Option<usize>
     requires { depth < 4611686018427387904 }
     ensures value { result ≡ spec.depth_behind_sign depth token.now }
@@ -71,7 +71,7 @@ pub(crate) fn only_plain<'w>(words: &'w [Word<'_>]) -> Option<&'w [u8]>
     }
 }
 
-/// Whether a value has plain words and signs alone, in which each brace has its partner. Its words are given, too.
+/// Whether a value has plain words and signs alone, in which each brace has its partner. `found` are its words.
 #[tactic(auto, unfolding(crate::specs::Values::is_sound))]
 pub(crate) fn is_sound(text: &[u8], found: &[Word<'_>]) -> bool
     requires { found.now ≡ words text.now }

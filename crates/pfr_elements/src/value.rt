@@ -8,7 +8,7 @@ use pfr_items::Items;
 use pfr_words::cutting::is_blank;
 use std::alloc::{AllocError, Global};
 
-/// The most bytes that the value of a macro may have where it holds those of others.
+/// The most bytes that the value of a macro may have if it holds the values of others.
 pub const LONGEST_VALUE: usize = 1048576;
 
 /// The most bytes of macros' values that others may hold, all together.
@@ -30,7 +30,7 @@ pub struct Draft {
     pub spliced: usize,
 }
 
-/// The first byte that is no blank, and 0 where there is none.
+/// The first byte that is no blank, or 0 if there is none.
 fn first_byte(text: &[u8]) -> u8
     ensures { result ≡ spec.first_byte text.now }
 {
@@ -65,7 +65,7 @@ fn put_behind(before: &mut Items<u8>, text: &[u8]) -> Result<(), AllocError>
     before.extend_from_slice(text)
 }
 
-/// Whether a value too long begins a list that has this text before one.
+/// Whether a text with a value behind it that is too long begins a list.
 fn is_long_list(before: &[u8], is_list: bool) -> bool
     ensures { result ≡ spec.is_long_list before.now is_list }
 {

@@ -123,7 +123,7 @@ all_of_rule : (all : List Label) (setting : Setting) (label : Option ℕ) (rule 
 all_of_rule all setting label rule [] labelled asked = All-nil (IsOfRule all rule)
 all_of_rule all setting label rule (m ∷ matches) labelled asked = All-cons (IsOfRule all rule) (record (flat_rule setting label rule) { packet = m }) _ (of_rule all setting label rule m labelled (All-head (AsksFrom rule) m matches asked)) (all_of_rule all setting label rule matches labelled (All-tail (AsksFrom rule) m matches asked))
 
--- what the rules of a filter rule ask of packets, and how many there are where its lists use no macro
+-- what the rules of a filter rule ask for, and how many there are if its lists use no macro
 pub record AreMatches (rule : FilterRule) (matches : List PacketMatch) : Type 0 where
   pub asked : All (AsksFrom rule) matches
   pub count : ArePlain rule.criteria → AllWritten IsPlain rule.options.icmp_types → length matches ≡ combinations_in rule.criteria * choices_in rule.options.icmp_types
@@ -227,7 +227,7 @@ none_copied (suc times) [] none = none_copied times [] none
 none_copied (suc times) (r ∷ rules) none = absurd (cc none)
 
 module _ (AreOfBody : List Label → List FlatRule → Type 0) (written : AnchorRule) (inner out : Body) (count most : ℕ) where
-  -- a body with so many rules counted, and no fault
+  -- a body with `count` rules counted, and no fault
   abbrev over : Body
   over = record out { fault = None; count = count; labels = inner.labels }
 

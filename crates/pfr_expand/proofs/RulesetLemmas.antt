@@ -137,7 +137,7 @@ rules_count number line passes (change.Binat to) matches all =
     let long = length-append all.binats (numbered number line passes to matches) in
     omega (arith, own, long)
 
--- with so many rules used up to the limit, and so many more, the limit is met
+-- if the rules used, counted up to the limit, and `count` more are within the limit, so are all rules together
 within_limit : (rules translations count : ℕ) → min (rules + translations) 65537 + count ≤ 65536 → rules + translations + count ≤ 65536
 within_limit rules translations count few = omega (arith, few)
 

@@ -43,7 +43,7 @@ use Rattle.pfr_expand.proofs.KeepLemmas.{EachKeeps, all_stand}
 
 -- ---- moved ports
 
--- all of the ports can be moved, where the rule moves them
+-- all of the ports can be moved, if the rule moves them
 abbrev AllFit : Option RdrAddress → List (Option PortMatch) → Type 0
 AllFit to ports = IfSome to (λ target. (first : ℕ) → target.port ≡ From first → all_fit first ports ≡ true)
 

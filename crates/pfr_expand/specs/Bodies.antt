@@ -180,7 +180,7 @@ body_from add out (x ∷ xs) = and_then (add x out) (λ more. body_from add more
 abbrev pub has_rules : Body → Bool
 has_rules body = not (length body.rules == 0)
 
--- where the body has no rule, nothing is made of the anchor's lists
+-- if the body has no rule, nothing is made of the anchor's lists
 abbrev pub with_body : Scope → Setting → AnchorRule → Body → Body → Result Body ConfError
 with_body scope setting anchor inner out = counted_anchor setting anchor (lists_of scope (has_rules inner) anchor.criteria None) inner out
 

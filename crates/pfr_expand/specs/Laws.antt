@@ -72,7 +72,7 @@ IsPlainPart (Some part) = AllWritten (λ m. IsPlainAddress m.address) part.addre
 abbrev pub ArePlain : Criteria → Type 0
 ArePlain criteria = AllWritten (λ m. IsPlain m.interface) criteria.interfaces × AllWritten IsPlain criteria.protocols × IsPlainPart criteria.hosts.source × IsPlainPart criteria.hosts.destination
 
--- how many elements may be chosen of a list; where none is written there is one choice
+-- how many elements may be chosen of a list; if none is written, there is one choice
 abbrev pub choices_in : {A : Type 0} → Option (List A) → ℕ
 choices_in None = 1
 choices_in (Some list) = length list
@@ -103,14 +103,14 @@ KeepsAsWritten Pass (Some No) state = state ≡ None
 KeepsAsWritten Pass None state = IsSomeAnd state (λ kept. (kept.no_sync ≡ false) × (kept.most ≡ None))
 KeepsAsWritten Pass (Some (Keep options)) state = IsSomeAnd state (λ kept. (kept.no_sync ≡ options.no_sync) × (kept.most ≡ options.most) × IfSome options.policy (λ written. kept.policy ≡ written))
 
--- the flags that it asks for are those that are written; where none are, S/SA if it keeps state
+-- the flags that it asks for are those that are written; if none are written, S/SA if it keeps state
 abbrev pub AsksAsWritten : Option FlagsMatch → Option StateRule → FlagsCriterion → Type 0
 AsksAsWritten (Some flags.Any) state asked = asked ≡ asks.Any
 AsksAsWritten (Some (flags.Of set mask)) state asked = asked ≡ asks.Written set mask
 AsksAsWritten None (Some kept) asked = asked ≡ asks.Default
 AsksAsWritten None None asked = asked ≡ asks.Any
 
--- what is asked for is an element of a list that is written and uses no macro, and nothing where none is written
+-- the criterion is an element of a list that is written and uses no macro, and nothing if none is written
 abbrev pub IsFrom : {A : Type 0} → Option (List (Written A)) → Option A → Type 0
 IsFrom None asked = asked ≡ None
 IsFrom {A = A} (Some list) asked = All IsPlain list → (x : A) × Contains list (Item x) × (asked ≡ Some x)
@@ -120,14 +120,14 @@ abbrev pub ports_of : Option Part → Option (List (Written PortMatch))
 ports_of None = None
 ports_of (Some part) = part.ports
 
--- what a flat rule asks of a packet's protocol, its ICMP type and its ports is from the lists of these
+-- a flat rule's criteria of protocol, ICMP type and ports are from the lists of these
 pub record AsksFrom (rule : FilterRule) (asked : PacketMatch) : Type 0 where
   pub protocol : IsFrom rule.criteria.protocols asked.protocol
   pub icmp : IsFrom rule.options.icmp_types asked.icmp
   pub source_port : IsFrom (ports_of rule.criteria.hosts.source) asked.source_port
   pub destination_port : IsFrom (ports_of rule.criteria.hosts.destination) asked.destination_port
 
--- the label at a flat rule's place is the one that is written, and it has no place where none is
+-- the label at a flat rule's place is the one that is written; if none is written, the rule has no such place
 abbrev pub IsLabelled : List Label → Option Name → Option ℕ → Type 0
 IsLabelled labels None place = place ≡ None
 IsLabelled labels (Some name) place = label_at labels place ≡ Some name.text
@@ -144,7 +144,7 @@ pub record IsOfRule (labels : List Label) (rule : FilterRule) (flat : FlatRule) 
   pub flags : AsksAsWritten rule.options.flags flat.state flat.flags
   pub packet : AsksFrom rule flat.packet
 
--- all flat rules of a written one; where its lists use no macro there is one for each combination of their elements
+-- all flat rules of a written one; if its lists use no macro, there is one for each combination of their elements
 pub record AreOfRule (labels : List Label) (rule : FilterRule) (rules : List FlatRule) : Type 0 where
   pub each : All (IsOfRule labels rule) rules
   pub count : ArePlain rule.criteria → AllWritten IsPlain rule.options.icmp_types → length rules ≡ combinations_in rule.criteria * choices_in rule.options.icmp_types
@@ -156,13 +156,13 @@ abbrev pub AreInTurn : {X : Type 0} → (X → List FlatRule → Type 0) → Lis
 AreInTurn AreOf [] rules = rules ≡ []
 AreInTurn AreOf (x ∷ others) rules = (own : List FlatRule) × (behind : List FlatRule) × (rules ≡ own ++ behind) × AreOf x own × AreInTurn AreOf others behind
 
--- some rules so many times over
+-- some rules, this many times over
 abbrev pub copies : ℕ → List FlatRule → List FlatRule
 copies zero rules = []
 copies (suc more) rules = rules ++ copies more rules
 
--- the rules of an anchor: copies of those of its body; where its lists use no macro there is one for each combination
--- of their elements
+-- the rules of an anchor: copies of the rules of its body; if its lists use no macro, there is one copy for each
+-- combination of their elements
 pub record AreOfAnchor (AreOfBody : List FlatRule → Type 0) (anchor : AnchorRule) (rules : List FlatRule) : Type 0 where
   pub body : List FlatRule
   pub are_body : AreOfBody body
@@ -170,7 +170,7 @@ pub record AreOfAnchor (AreOfBody : List FlatRule → Type 0) (anchor : AnchorRu
   pub are_copies : rules ≡ copies times body
   pub count : ArePlain anchor.criteria → times ≡ combinations_in anchor.criteria
 
--- the rules of a filter rule, or of an anchor where it is known which are rules of its body
+-- the rules of a filter rule, or of an anchor, given which are rules of its body
 abbrev pub AreByForm : List Label → (List FilterStatement → List FlatRule → Type 0) → FilterStatement-F FilterStatement → List FlatRule → Type 0
 AreByForm labels AreOfBody (FilterStatement-F.Rule rule) rules = AreOfRule labels rule rules
 AreByForm labels AreOfBody (FilterStatement-F.Anchor anchor body) rules = AreOfAnchor (AreOfBody body) anchor rules
@@ -187,7 +187,8 @@ AreOf labels other rules = rules ≡ []
 
 -- ---- translation rules
 
--- a flat translation rule of a written one: it has its line, and what it translates isn't filtered just where that says `pass`
+-- a flat translation rule of a written one: it has the line of that one, and says `pass` (what it translates isn't
+-- filtered) just if that one does
 pub record IsOfTranslation {T : Type 0} (rule : TranslationRule) (flat : FlatTranslation T) : Type 0 where
   pub line : flat.line ≡ rule.line
   pub passes : flat.passes ≡ rule.passes
@@ -200,7 +201,7 @@ IsOfOneOf statements flat = (rule : TranslationRule) × Contains statements (Tra
 abbrev pub MovesWithinPorts : FlatTranslation RdrAddress → Type 0
 MovesWithinPorts flat = IfSome flat.target (λ target. (first : ℕ) → target.port ≡ From first → fits first flat.packet.destination_port ≡ true)
 
--- each of the translation rules of all kinds is, and ports that are moved stay ports
+-- each translation rule, of any kind, is of one of the statements, and ports that are moved stay ports
 pub record AreOfOnes (statements : List Statement) (translations : Translations) : Type 0 where
   pub nats : All (IsOfOneOf statements) translations.nats
   pub rdrs : All (IsOfOneOf statements) translations.rdrs

@@ -51,7 +51,7 @@ abbrev pub skipped_by : O.Options → Option ConfError → List IfName → Resul
 skipped_by options (Some e) names = Err e
 skipped_by options None names = Ok (record options { skipped = options.skipped ++ names })
 
--- so many names as there may be rules
+-- there may be as many names as rules
 abbrev pub with_skipped : ℕ → O.Options → E.Elements IfName → Result O.Options ConfError
 with_skipped line options found =
     if nat_lt most_elements found.count || nat_lt 65536 (length options.skipped + found.count) then Err (too_many line)

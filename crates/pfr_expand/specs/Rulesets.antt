@@ -117,7 +117,7 @@ line_by (FilterStatement-F.Anchor anchor body) = anchor.line
 unfoldable pub line_of : FilterStatement → ℕ
 line_of x = line_by (out-FilterStatement x)
 
--- how many rules there are; one more than there may be stands for all from there on
+-- how many rules there are; one more than there may be stands for itself and all larger numbers
 abbrev pub used_in : Work → ℕ
 used_in work = min (length work.flat.filter.rules + work.translations) 65537
 

@@ -48,7 +48,7 @@ more_in interfaces c = more_by interfaces c.hosts
 abbrev pub with_more : List Interface → ℕ → HostCriterion → ℕ
 with_more interfaces more c = min (more + more_in interfaces c) 18446744073709551615
 
--- more than a list may have are one more than that
+-- more than a list may have count as one more than that
 abbrev pub more_of : List Interface → List HostCriterion → ℕ
 more_of interfaces written = min (fold (with_more interfaces) 0 written) (most_elements + 1)
 

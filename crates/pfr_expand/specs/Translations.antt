@@ -29,7 +29,7 @@ use Rattle.pfr_flat.specs.Translations.{numbered, all_fit}
 use Rattle.pfr_expand.specs.declared.translation.Change.{Change}
 use Rattle.pfr_expand.specs.declared.translation.Change.TheVariants as change
 
--- ---- what is asked of a packet
+-- ---- criteria
 
 abbrev pub lists_by : Scope → TranslationRule → Option Target → L.Lists
 lists_by scope rule (Some (t.Binat host)) = lists_with scope true rule.criteria None (if_written (single_sources scope rule.line) (addresses_in rule.criteria.hosts.source))

@@ -222,8 +222,8 @@ impl Body {
     }
 }
 
-/// How many rules a statement on a line has with those that its lists make of so many, and what may be chosen of the
-/// lists.
+/// How many rules a statement on `line` has (`before`, and `copies` for each combination of its lists), and what may be
+/// chosen of the lists.
 pub(crate) fn counted_choices(
     alloc: Global,
     used: usize,
@@ -307,7 +307,7 @@ fn put_copy(
     )
 }
 
-/// The same, said of the places too.
+/// The same; its contract says that the places stay right too.
 fn add_copy(
     out: &mut Body,
     anchor: FlatAnchor,
@@ -410,7 +410,7 @@ fn has_rules(body: &Body) -> bool
     !body.rules.as_slice().is_empty()
 }
 
-/// The rules of an anchor, by what its body comes to. Where the body has no rule, nothing is made of the anchor's lists.
+/// The rules of an anchor, by what its body comes to. If the body has no rule, nothing is made of the anchor's lists.
 #[tactic(auto, using(crate::proofs::Depths::labels_taken))]
 fn add_anchor(
     alloc: Global,

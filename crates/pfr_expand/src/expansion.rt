@@ -24,7 +24,7 @@ use pfr_ruleset::{FilterRules, FlatAnchor, FlatRule, Interface, Label, Ruleset};
 use std::alloc::{AllocError, Global};
 use std::mem::{drop, replace};
 
-/// The name by which the table of the interfaces' own addresses is known. No text can write it.
+/// The name of the table of the interfaces' own addresses. No text can write it.
 const OWN_TABLE: &[u8] = b"(self)";
 
 /// How far an expansion has come: what gives words their meaning, how many entries all tables have together, and the
@@ -130,7 +130,7 @@ impl<'a> Work<'a> {
         })
     }
 
-    /// How many rules there are; one more than there may be stands for all from there on.
+    /// How many rules there are; one more than there may be stands for itself and all larger numbers.
     fn used(&self) -> usize
         ensures { result ≡ spec.used_in self.now }
     {
@@ -189,7 +189,7 @@ impl<'a> Work<'a> {
         set_option(&mut self.flat.options, alloc, &self.scope, option)
     }
 
-    /// What holds for the statement of a line where it says nothing itself.
+    /// What holds for the statement of a line if it says nothing itself.
     fn setting(&self, line: usize) -> Setting
         ensures { result ≡ spec.setting_of self.now line }
     {
@@ -275,7 +275,7 @@ impl<'a> Work<'a> {
         Ok(())
     }
 
-    /// A translation rule; an anchor of such is empty.
+    /// A translation rule; an anchor of such rules is empty.
     fn add_translations(
         &mut self,
         alloc: Global,
@@ -356,8 +356,9 @@ fn work_of<'a>(
     work.add_all(alloc, statements).and(Ok(work))
 }
 
-/// The flat ruleset that statements mean for the interfaces of a run, or the first fault of theirs in the order of the text: of
-/// a macro's value, a table that isn't defined or clashes, a name that is no interface's, or of too many rules or entries.
+/// The flat ruleset that statements mean for the interfaces of a run, or their first fault in the order of the text: a
+/// fault of a macro's value, a table that isn't defined or clashes, a name that is no interface's, or too many rules or
+/// entries.
 #[tactic(auto, unfolding(crate::specs::Rulesets::expanded))]
 pub fn expand(
     alloc: Global,

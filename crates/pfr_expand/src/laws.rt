@@ -9,16 +9,16 @@ pub fn counts_are_lengths()
     ensures most { AtMostAllRules }
 {}
 
-/// The filter rules of a ruleset are those of its statements, one after the other: of a filter rule, flat rules that do
-/// and ask for what is written, of an anchor, copies of the rules of its body, and of any other statement none. Where the
-/// lists of a rule or an anchor use no macro, there is one flat rule or copy for each combination of their elements. Each
-/// flat rule has the line and the label of its filter rule.
+/// The filter rules of a ruleset are those of its statements, one after the other. A filter rule makes flat rules that
+/// do and ask for what is written, an anchor copies of the rules of its body, and any other statement none. If the
+/// lists of a rule or an anchor use no macro, there is one flat rule or copy for each combination of their elements.
+/// Each flat rule has the line and the label of its filter rule.
 pub fn every_flat_rule_is_of_one_statement()
     ensures { EveryRuleIsOfOneStatement }
 {}
 
-/// Each translation rule of a ruleset is of a statement that is a translation rule, and has its line. Where a `rdr` rule moves ports
-/// by one distance, all of them stay ports.
+/// Each translation rule of a ruleset is of a statement that is a translation rule, and has its line. If a `rdr` rule
+/// moves ports by one distance, all of them stay ports.
 pub fn every_translation_is_of_a_statement()
     ensures { EveryTranslationIsOfAStatement }
 {}

@@ -19,7 +19,7 @@ pub struct Filling {
     pub found: Elements<HostCriterion>,
 }
 
-/// Two entries that are one with both signs, or a table that is defined twice.
+/// The fault of one entry with both signs, or of a table that is defined twice.
 pub(crate) fn clash(line: usize) -> ConfError
     ensures { result ≡ spec.clash line }
 {
@@ -29,7 +29,7 @@ pub(crate) fn clash(line: usize) -> ConfError
     }
 }
 
-/// Whether a list has more elements than it may have, or with so many others more than there may be in all.
+/// Whether a list of `count` elements has more than it may have, or with `others` more than there may be in all.
 pub(crate) fn exceeds(others: usize, count: usize) -> bool
     ensures { result ≡ spec.exceeds others count }
 {
@@ -120,7 +120,8 @@ fn more_in(interfaces: &[Interface], hosts: HostCriterion) -> usize
     }
 }
 
-/// How many entries more there are than places at which something is written. More than a list may have are one more than that.
+/// How many more entries there are than places at which something is written. More than a list may have count as one
+/// more than that.
 fn more_of(interfaces: &[Interface], written: &[HostCriterion]) -> usize
     ensures { result ≡ spec.more_of interfaces.now written.now }
 {
@@ -131,7 +132,7 @@ fn more_of(interfaces: &[Interface], written: &[HostCriterion]) -> usize
     more.min(MOST_ELEMENTS + 1)
 }
 
-/// What is written behind so many things.
+/// What is written behind the first `count` things.
 fn behind(written: &[HostCriterion], count: usize) -> &[HostCriterion]
     ensures { result.now ≡ drop count written.now }
 {

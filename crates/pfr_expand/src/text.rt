@@ -42,8 +42,8 @@ fn by_line(fault: ConfError) -> ConfError
     }
 }
 
-/// What a ruleset text means for the interfaces of a run, or the first fault of the text. One that is longer than
-/// [`LONGEST_TEXT`] has too many words in its first line, and isn't read. Want of memory has line 0.
+/// What a ruleset text means for the interfaces of a run, or the first fault of the text. A text that is longer than
+/// [`LONGEST_TEXT`] isn't read: its fault is `TooMany` on line 1. Want of memory has line 0.
 pub fn ruleset_of(
     alloc: Global,
     text: &[u8],

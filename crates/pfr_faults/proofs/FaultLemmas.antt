@@ -25,7 +25,7 @@ unfolding faults_from
 last_fault found zero words interfaces some more = absurd (omega arith)
 last_fault found (suc left) words interfaces some more = rw (more, append-nil) refl
 
--- no more are asked for
+-- no more are wanted
 pub none_left : (found : List Fault) (left : ℕ) (words : Left) (interfaces : List Interface) (all : List Fault) → left ≡ 0
     → found ++ faults_from left words interfaces ≡ all → found ≡ all
 unfolding faults_from

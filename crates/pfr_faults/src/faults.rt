@@ -132,8 +132,8 @@ fn put<'a>(
     }
 }
 
-/// Puts the first fault of some words behind those so far, and leaves its statement out. Answers whether there may be more: not if there
-/// is none.
+/// Puts the first fault of some words behind those so far, and leaves its statement out. Answers whether there was
+/// one, so that there may be more.
 fn find<'a>(
     alloc: Global,
     found: &mut Items<Fault<'a>>,
@@ -156,7 +156,8 @@ fn find<'a>(
     Ok(true)
 }
 
-/// The faults of some words, at most `MOST_FAULTS`: the first one, then that of the words without its statement, and so on.
+/// The faults of some words, at most `MOST_FAULTS`: the first one, then the first of the words without its statement,
+/// and so on.
 #[tactic(auto, unfolding(crate::specs::Faults::faults_of))]
 fn faults_of<'a>(
     alloc: Global,
@@ -201,7 +202,7 @@ fn is_nothing(faults: &[Fault<'_>]) -> bool
     faults.is_empty()
 }
 
-/// A fault of a text, which is all that is said of the text.
+/// A fault as the only one of a text.
 fn alone<'a>(
     alloc: Global,
     fault: ConfError,
@@ -232,8 +233,9 @@ fn faults_behind<'a>(
     }
 }
 
-/// The faults of a text for the interfaces of a run, 100 at most: the first one, then that of the text without the statement that has it, and so on.
-/// Of a table at fault the name stays, and of an anchor the body. A text that is too long has this fault alone.
+/// The faults of a text for the interfaces of a run, 100 at most: the first one, then the first of the text without the
+/// statement at fault, and so on. Of a table at fault the name stays, and of an anchor the body. A text that is too
+/// long has this fault alone.
 #[tactic(auto, unfolding(crate::specs::Faults::all_faults))]
 pub fn all_faults<'a>(
     alloc: Global,

@@ -27,7 +27,7 @@ const BEGINNING: Within = Within {
 };
 
 impl Within {
-    /// Whether the statement is one behind a word whose first word it may be.
+    /// Whether the statement is an anchor, as known behind a word, which may be its first.
     fn is_anchor_behind(self, mark: &Mark<'_>) -> bool
         ensures { result ≡ spec.is_anchor_behind self mark.now }
     {
@@ -58,8 +58,8 @@ impl Within {
         self.is_anchor && is(mark, b"{")
     }
 
-    /// Whether the statement ends before a word, and another one begins behind it: at the end of a line, and where the body of an anchor
-    /// begins or ends.
+    /// Whether the statement ends before a word, and another one begins behind it: at the end of a line, and where the
+    /// body of an anchor begins or ends.
     fn ends_at(self, mark: &Mark<'_>) -> bool
         ensures { result ≡ spec.ends_at self mark.now }
     {
@@ -162,8 +162,8 @@ fn angle_len(marks: &[Mark<'_>]) -> usize
     0
 }
 
-/// How many words of a statement stay though it is at fault, so that what depends on it isn't a fault too: the name of a table, and the
-/// first word of an anchor whose body stands behind it.
+/// How many words of a statement stay though it is at fault, so that what depends on it isn't a fault too: the name of
+/// a table, and the first word of an anchor whose body stands behind it.
 fn kept_of(statement: &[Mark<'_>], behind: &[Mark<'_>]) -> usize
     ensures { result ≡ spec.kept_of statement.now behind.now }
 {
@@ -234,7 +234,7 @@ fn rest_behind(within: Within, fault: &Mark<'_>, is_open: bool, marks: &[Mark<'_
     rest_len(within.behind_fault(fault, is_open), marks)
 }
 
-/// How many words stand before the end of a statement: these are the words from the one at `fault` on.
+/// How many words stand before the end of a statement; `marks` are the words from the one at `fault` on.
 fn end_behind(within: Within, fault: usize, is_open: bool, marks: &[Mark<'_>]) -> usize
     ensures { result ≡ spec.end_behind within fault is_open marks.now }
 {
@@ -321,7 +321,7 @@ fn put_defined<'a>(names: &mut Items<Mark<'a>>, statement: &[Mark<'a>]) -> Resul
     }
 }
 
-/// Names of macros, and behind them that of the one that a statement defines.
+/// Names of macros, and behind them the name of the macro that a statement defines.
 fn with_defined<'a>(
     alloc: Global,
     names: &[Mark<'a>],

@@ -1,7 +1,8 @@
-//! All faults of a ruleset text at once, each at its word.
+//! All faults of a ruleset text at once, each at its word. A helper of `pfr_prepare`.
 //!
-//! The strict reader answers the first fault of a text, by its line. [`all_faults`] asks it again and again: each time of the words that
-//! are left without the statement that was at fault, and with each word on a line of its own, so that the line says which word it is.
+//! The strict reader answers the first fault of a text, by its line. [`all_faults`] calls it again and again, each time
+//! on the words that are left without the statement at fault. Each word stands on a line of its own, so that the line
+//! says which word it is.
 #![tactic(auto)]
 
 mod faults;

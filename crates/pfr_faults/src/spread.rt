@@ -60,8 +60,8 @@ pub(crate) fn is_too_long(text: &[u8]) -> bool
     text.len() > LONGEST_TEXT
 }
 
-/// Words as a text in which each stands on a line of its own. If that is longer than a text may be, they stand on the lines on which they
-/// stood.
+/// Words as a text in which each stands on a line of its own. If that is longer than a text may be, they stand on the
+/// lines on which they stood.
 #[tactic(auto, unfolding(crate::specs::Spread::spread_out))]
 pub(crate) fn spread_out(alloc: Global, marks: &[Mark<'_>]) -> Result<Spread, AllocError>
     ensures { IfOk result (λ made. made ≡ spec.spread_out marks.now) }

@@ -22,7 +22,7 @@ pub opening_count : (job : RunJob) (book : Book) → StandsAt book (opening job)
 unfolding opening
 opening_count job book stands = ap (λ (w : World). w.count) stands.left
 
--- where nothing was emitted before, what is emitted is what is written more
+-- if nothing was emitted before, what is emitted is what is written further
 leads_on : (old new : Book) (out out' : Emitted) (next : World → World) → texts_of out ≡ no_texts → LeadsTo old new out out' next → (world : World) → StandsAt old world
     → StandsAt new (next world) × (online (job_of old) (next world) ≡ joined (online (job_of old) world) (texts_of out'))
 leads_on old new out out' next none leads world stands = leads world (online (job_of old) world) stands (nothing_behind (online (job_of old) world) (texts_of out) none)
@@ -57,7 +57,7 @@ pub takes_viewed : (old new : Book) (out out' : Emitted) (records : List Record)
 takes_viewed old new out out' records packets none are leads =
     subst (λ (batch : List Record). TakesBatch old new batch (texts_of out') (world_after (job_of old) (world_in old) (frames_of packets)).changes) are.records_are (takes_batch old new out out' packets none leads)
 
--- and where a list is lent for what it does to the table
+-- and if a list is lent for what it does to the table
 pub takes_listed : (old new : Book) (out out' : Emitted) (packets : List (Record × View)) (kept kept' : Bool) (before changes : List Change) → texts_of out ≡ no_texts → LeadsTo old new out out' (λ world. world_after (job_of old) world (frames_of packets))
     → before ≡ [] → Some (kept', changes) ≡ with_more (Some (kept, before)) (world_after (job_of old) (world_in old) (frames_of packets)).changes → TakesBatch old new (records_of packets) (texts_of out') changes
 takes_listed old new out out' packets kept kept' before changes none leads empty listed =

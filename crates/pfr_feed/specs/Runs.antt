@@ -40,8 +40,8 @@ pub data Call : Type 0 where
   -- it took the packets of a batch back
   rested : Call
 
--- between two calls: the world of the batches that were taken, the feed, the batches that were given and wait, and whether the reading
--- has ended
+-- between two calls: the world of the batches that were taken, the feed, the batches that were given and wait, and
+-- whether the reading has ended
 pub record Point (F : Type 0) : Type 0 where
   pub world : World
   pub feed : F
@@ -52,8 +52,8 @@ pub record Point (F : Type 0) : Type 0 where
 abbrev pub first_point : {F : Type 0} → RunJob → F → Point F
 first_point job feed = record { world = opening job; feed = feed; waiting = []; is_over = false }
 
--- Calls one after the other. A batch is given only if fewer than three wait and the reading hasn't ended; batches are taken in the
--- order in which they were given.
+-- Calls one after the other. A batch is given only if fewer than three wait and the reading hasn't ended; batches are
+-- taken in the order in which they were given.
 abbrev pub Calls : {F : Type 0} → Transitions F → RunJob → Point F → List Call → Point F → Type 0
 Calls feeds job old [] new = new ≡ old
 Calls feeds job old (gave records ∷ calls) new =
@@ -83,7 +83,7 @@ taken_in (call ∷ calls) = taken_in calls
 
 -- ---- how a run ends
 
--- from the first packet on it went by these calls to this point, and this is a fact of both
+-- from the first packet on a run went by some calls to a point, and `P` holds of both
 pub record Went {F : Type 0} (feeds : Transitions F) (job : RunJob) (feed : F) (P : List Call → Point F → Type 0) : Type 0 where
   pub calls : List Call
   pub at : Point F

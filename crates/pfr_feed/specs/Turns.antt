@@ -13,7 +13,7 @@ use Rattle.pfr_feed.specs.Transitions.{Transitions}
 
 -- ---- one batch
 
--- from whatever world a book stood at, it took a batch, and this is what that adds, and does to the table
+-- a book took a batch, from whatever world it stood at; this is what the batch adds, and what it does to the table
 abbrev pub TakesBatch : (old new : Book) → List Record → Texts → List Change → Type 0
 TakesBatch old new records piece changes =
     (world : World) → StandsAt old world

@@ -13,7 +13,8 @@ use crate::turn::Turn;
 use pfr_commit::{Book, Gate};
 use std::alloc::{AllocError, Global};
 
-/// Asks a feed for a batch, has a book take it, and hands the feed what it adds, in a piece that has the room of the one before.
+/// Asks a feed for a batch, has a book take it, and hands the feed what the batch adds. The new piece has the room of
+/// the one before.
 fn take_turn<F: Feed, G: Gate>(
     alloc: Global,
     book: &mut Book,
@@ -47,8 +48,8 @@ fn take_turn<F: Feed, G: Gate>(
     Turn::GoesOn
 }
 
-/// Takes the batches of a feed one after the other, and hands the feed what each adds before it asks for the next. A gate is told what
-/// each packet came to.
+/// Takes the batches of a feed one after the other, and hands the feed what each adds before it asks for the next. A
+/// gate is told what each packet came to.
 pub fn run_alone<F: Feed, G: Gate>(
     alloc: Global,
     mut book: Book,

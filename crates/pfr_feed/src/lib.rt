@@ -1,6 +1,7 @@
 //! Runs over the batches of a feed: what a run is, and the run by one thread.
 //!
-//! A [`Feed`] gives the batches and takes what they add. `specs/Runs.antt` says how its calls go, and how a run ends.
+//! A helper of `pfr_work`, `pfr_out`, `pfr_diff` and `pfr_show`. A [`Feed`] gives the batches and takes what they add.
+//! `specs/Runs.antt` says how its calls go, and how a run ends.
 #![tactic(auto)]
 
 mod alone;

@@ -7,7 +7,7 @@ use pfr_commit::Emitted;
 use pfr_sync::MOST_INTERFACES;
 use std::alloc::Global;
 
-/// How many bytes of verdict lines, and of records at the place of each interface, a piece has room for.
+/// The room of a piece: bytes of verdict lines, and bytes of records at the place of each interface.
 #[derive(Clone, Copy)]
 pub struct Room {
     verdicts: usize,
@@ -17,7 +17,7 @@ pub struct Room {
     ghost few: { places ≤ 8 },
 }
 
-/// An eighth more.
+/// `bytes` and an eighth more.
 fn and_an_eighth(bytes: usize) -> usize {
     bytes.saturating_add(bytes / 8)
 }
@@ -32,7 +32,7 @@ impl Room {
         }
     }
 
-    /// What a piece has, and an eighth more.
+    /// The bytes that a piece has, and an eighth more.
     pub fn of(piece: &Emitted) -> Room {
         let texts = piece.packets.as_slice();
         let places = texts.len().min(MOST_INTERFACES);

@@ -33,7 +33,7 @@ by_protocol c m = flat_map (λ x. by_icmp c (record m { protocol = x })) c.proto
 abbrev pub by_interface : C.Choices → PacketMatch → List PacketMatch
 by_interface c m = flat_map (λ x. by_protocol c (record m { interface = x })) c.interfaces
 
--- one for each choice of an interface, a protocol, an ICMP type, a source, its port, a destination and its port, where
--- the last of them changes first
+-- one for each choice of an interface, a protocol, an ICMP type, a source, its port, a destination and its port; the
+-- last of them changes first
 unfoldable pub combinations : C.Choices → List PacketMatch
 combinations c = by_interface c no_match

@@ -8,11 +8,11 @@ use Rattle.pfr_flat.specs.Lists.{product, has_long_list}
 abbrev pub too_many : ℕ → ConfError
 too_many line = record { line = line; kind = TooMany }
 
--- more rules than a ruleset may have with those that it has, or a list of more elements than it may have
+-- `count` more rules than `used` are more than a ruleset may have, or a list has more elements than it may have
 abbrev pub exceeds : ℕ → L.Lists → ℕ → Bool
 exceeds used lists count = has_long_list lists || nat_lt 65536 (used + count)
 
--- how many rules the statement on a line has with those that the lists make of so many, unless they are too many
+-- how many rules a statement has: `before`, and `copies` for each combination of the lists, unless they are too many
 unfoldable pub counted : ℕ → ℕ → L.Lists → ℕ → ℕ → Result ℕ ConfError
 counted used line lists before copies =
     let count : ℕ = before + product lists * copies in

@@ -49,8 +49,8 @@ abbrev pub ports_in : Option Part → Option (List (Written PortMatch))
 ports_in None = None
 ports_in (Some part) = part.ports
 
--- the lists of criteria, where the addresses of the source come to these; where nothing is made of them, what macros
--- stand for is only counted
+-- the lists of criteria, given what the addresses of the source come to; if nothing is made of them, what macros stand
+-- for is only counted
 unfoldable pub lists_with : Scope → Bool → Criteria → Option (List (Written IcmpMatch)) → Option (E.Elements HostCriterion) → L.Lists
 lists_with scope keeps criteria types sources = record {
   interfaces = if_written (interfaces scope keeps) criteria.interfaces;

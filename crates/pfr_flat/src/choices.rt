@@ -7,8 +7,8 @@ use pfr_net::Protocol;
 use pfr_ruleset::{HostCriterion, IcmpMatch, InterfaceCriterion, NO_MATCH, PacketMatch, PortMatch};
 use std::alloc::{AllocError, Global};
 
-/// What may be chosen for each thing that a rule asks, in the order in which it is written. Where nothing is written
-/// there is one choice, which asks for nothing.
+/// What may be chosen for each criterion of a rule, in the order in which it is written. If nothing is written, there
+/// is one choice, which asks for nothing.
 #[derive(Drop)]
 pub struct Choices {
     pub interfaces: Items<Option<InterfaceCriterion>>,
@@ -136,7 +136,7 @@ fn add_protocols(
     Ok(())
 }
 
-/// One for each combination, where the last list's choice changes first.
+/// A match for each combination; the last list's choice changes first.
 #[tactic(auto, unfolding(crate::specs::Choices::combinations))]
 pub fn combinations(alloc: Global, choices: &Choices) -> Result<Items<PacketMatch>, AllocError>
     ensures { IfOk result (λ made. made ≡ spec.combinations choices.now) }

@@ -18,7 +18,8 @@ pub fn too_many(line: usize) -> ConfError
     }
 }
 
-/// Whether there are more rules than a ruleset may have, or a list has more elements than it may have.
+/// Whether `count` more rules than `used` are more than a ruleset may have, or a list has more elements than it may
+/// have.
 fn exceeds(used: usize, lists: &Lists, count: usize) -> bool
     requires { count ≤ 4611686018427387904 }
     ensures { result ≡ spec.exceeds used lists.now count }
@@ -26,8 +27,8 @@ fn exceeds(used: usize, lists: &Lists, count: usize) -> bool
     lists.has_long_list() || used > MOST_RULES || count > MOST_RULES - used
 }
 
-/// How many rules the statement on a line has with those that the lists make of so many, unless they are too many with
-/// the rules that the ruleset has.
+/// How many rules the statement on `line` has: `before`, and `copies` for each combination of the lists. It is
+/// `TooMany` if a ruleset that has `used` rules may not have them too, or if a list is too long.
 #[tactic(auto, unfolding(crate::specs::Counts::counted), using(crate::proofs::Products::exceeds_capped, crate::proofs::Products::count_capped))]
 pub fn counted(
     used: usize,

@@ -1,5 +1,5 @@
-//! Flat rules, of which each asks for one thing of a kind, with the anchors round them; and what the lists of one
-//! statement make.
+//! A helper of `pfr_expand`: the combinations that the lists of one statement make, each of which asks for one thing of
+//! a kind, and the flat translation rules of them.
 //!
 //! [`lists_of`] gives the lists of a statement's criteria their elements, [`counted`] says how many rules they make
 //! before any is made, and [`combinations`] makes a match of each choice from all of them.

@@ -101,7 +101,7 @@ fn put_lists<'a>(
     put_list::<Written<'a, IcmpMatch>>(alloc, scope, keeps, types, &mut out.icmp_types)
 }
 
-/// What the lists of criteria come to, and those of ICMP types, where the addresses of the source come to these. Where
+/// What the lists of criteria and of ICMP types come to, given what the addresses of the source come to (`sources`). If
 /// nothing is made of them (`keeps` is false), what macros stand for is only counted.
 pub fn lists_with<'a>(
     alloc: Global,
@@ -125,8 +125,8 @@ pub fn lists_with<'a>(
     put_lists(alloc, scope, keeps, criteria, types, &mut lists).and(Ok(lists))
 }
 
-/// What the lists of criteria come to, and those of ICMP types. Where nothing is made of them (`keeps` is false), what
-/// macros stand for is only counted.
+/// What the lists of criteria and of ICMP types come to. If nothing is made of them (`keeps` is false), what macros
+/// stand for is only counted.
 pub fn lists_of<'a>(
     alloc: Global,
     scope: &Scope<'_>,
@@ -157,7 +157,7 @@ fn is_long<T>(list: &Option<Elements<T>>) -> bool
     count_of(list) > MOST_ELEMENTS
 }
 
-/// The product of two counts, or one more than a ruleset may have of rules where it is larger.
+/// The product of two counts, or one more than a ruleset may have of rules if it is larger.
 fn times(count: usize, other: usize) -> usize
     requires { count ≤ 65537 }
     ensures value { result ≡ min (count * other) 65537 }
@@ -167,7 +167,7 @@ fn times(count: usize, other: usize) -> usize
 }
 
 impl Lists {
-    /// How many rules the lists make; one more than a ruleset may have stands for all from there on.
+    /// How many rules the lists make; one more than a ruleset may have stands for itself and all larger numbers.
     #[tactic(auto, unfolding(crate::specs::Lists::product), using(crate::proofs::Products::capped_product))]
     pub fn product(&self) -> usize
         ensures value { result ≡ min (spec.product self.now) 65537 }
@@ -197,7 +197,7 @@ impl Lists {
     }
 }
 
-/// The first fault so far, or else that of a list, which is taken out of it.
+/// The first fault so far, or else the fault of a list, which is taken out of it.
 fn or_fault<T>(fault: Option<ConfError>, list: &mut Option<Elements<T>>) -> Option<ConfError>
     ensures fault { result ≡ spec.or_fault fault list.old }
     ensures items { spec.items_of list.new ≡ spec.items_of list.old }
@@ -231,7 +231,7 @@ fn put_items<T: Copy>(items: &[T], out: &mut Items<Option<T>>) -> Result<(), All
     Ok(())
 }
 
-/// Puts what may be chosen of a list; where none is written one thing, which asks for nothing.
+/// Puts what may be chosen of a list; if none is written, one thing, which asks for nothing.
 fn put_choices<T: Copy>(
     list: &Option<Elements<T>>,
     out: &mut Items<Option<T>>,

@@ -33,7 +33,7 @@ pub fn put_translations<T: Copy>(
     Ok(())
 }
 
-/// Whether these ports can be moved so that the first goes to this one.
+/// Whether `ports` can be moved so that the first of them goes to `first`.
 fn fits(first: u16, ports: Option<PortMatch>) -> bool
     ensures { result ≡ spec.fits first ports }
 {
@@ -46,7 +46,7 @@ fn fits(first: u16, ports: Option<PortMatch>) -> bool
     }
 }
 
-/// Whether all ports that may be chosen can be moved so that the first goes to this one: each is a number, or a range
+/// Whether all ports that may be chosen can be moved so that the first goes to `first`: each is a number, or a range
 /// that stays within the ports.
 pub fn all_fit(first: u16, ports: &[Option<PortMatch>]) -> bool
     ensures { result ≡ spec.all_fit first ports.now }

@@ -11,7 +11,7 @@ use Rattle.std.proofs.lemmas.List.Sums.{fails_before_first}
 all_fail : (p : ℕ → Bool) (text : List ℕ) → length text ≤ position_or_len p text → All (λ b. p b ≡ false) text
 all_fail p text all k d within = fails_before_first p text k d (omega (arith, all, within))
 
--- where no byte ends a part, the text is the one part
+-- if no byte ends a part, the whole text is one part
 one_part : {B : Type 0} (p : ℕ → Bool) (f : List ℕ → List B) (text : List ℕ) → f [] ≡ [] → length text ≤ position_or_len p text
     → f (before_first p text) ++ flat_map f (slice_split p (after_first p text)) ≡ flat_map f (slice_split p text)
 one_part p f text none all =

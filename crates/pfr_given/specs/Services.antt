@@ -64,7 +64,7 @@ services text = services_behind 65536 [] (services_in text)
 abbrev pub words_of : List Entry → List (List ℕ)
 words_of entries = map (λ e. e.word) entries
 
--- entries for those of these names that no entry from a place on has
+-- entries for the names that no entry from `start` on has
 abbrev pub new_entries : ℕ → List Entry → (names : List (List ℕ)) → (text : List ℕ) → List Entry
 new_entries start entries names text = entries_for subject.Service (new_names (words_of (drop start entries)) names) text
 
@@ -74,7 +74,7 @@ group_at group port len = if group.port == port then group else record { port = 
 abbrev pub port_entries : Group → List Entry → List (List ℕ) → List Entry
 port_entries group entries names = new_entries group.start entries names (decimal group.port)
 
--- the lines to which a line belongs that stands behind others and so many entries
+-- the lines to which a line belongs, behind the lines of `group` and `len` entries
 abbrev pub group_behind : Group → ℕ → Option (ℕ × List (List ℕ)) → Group
 group_behind group len None = group
 group_behind group len (Some s) = group_at group s.0 len

@@ -5,10 +5,10 @@ ghost use Rattle.pfr_given.specs.Entries as spec;
 use pfr_items::Items;
 use std::alloc::{AllocError, Global};
 
-/// As what a word of a ruleset is asked.
+/// What a word of a ruleset names.
 #[derive(Clone, Copy, Debug, PartialEq, Eq)]
 pub enum Subject {
-    /// A host or an interface that stands where an address does.
+    /// A host or an interface in the place of an address.
     Address,
     /// An interface or a group of interfaces.
     Interface,
@@ -49,7 +49,7 @@ fn is_both(text: &[u8], front: &[u8], back: &[u8]) -> bool
     before == front && behind == back
 }
 
-/// Whether an entry is for a word that is made of a word and a suffix, as this subject.
+/// Whether an entry is for `word` followed by `suffix`, as this subject.
 #[tactic(auto, using(crate::proofs::EntryLemmas::both_is))]
 pub(crate) fn is_for(entry: &Entry, subject: Subject, word: &[u8], suffix: &[u8]) -> bool
     ensures { result ≡ spec.is_for subject (word.now ++ suffix.now) entry.now }
@@ -58,7 +58,7 @@ pub(crate) fn is_for(entry: &Entry, subject: Subject, word: &[u8], suffix: &[u8]
 }
 
 impl Given {
-    /// Nothing yet.
+    /// No entries.
     pub fn new(alloc: Global) -> Given
         ensures { result.entries ≡ [] }
     {
@@ -67,7 +67,7 @@ impl Given {
         }
     }
 
-    /// Puts an entry at the end, for a word that is made of a word and a suffix.
+    /// Puts an entry at the end, for `word` followed by `suffix`.
     pub(crate) fn add(
         &mut self,
         alloc: Global,
@@ -96,7 +96,7 @@ impl Given {
     }
 }
 
-/// How many texts stand for the word that is made of a word and a suffix (`em1` and `:network`), as this subject.
+/// How many texts stand for `word` followed by `suffix` (`em1` and `:network`), as this subject.
 #[tactic(auto, unfolding(crate::specs::Entries::texts_of))]
 pub fn count_of(given: &Given, subject: Subject, word: &[u8], suffix: &[u8]) -> usize
     ensures { result ≡ length (spec.texts_of given.now subject (word.now ++ suffix.now)) }

@@ -40,9 +40,9 @@ impl Given {
         self.add(alloc, Subject::Address, word, suffix, text.as_slice())
     }
 
-    /// Adds what stands for an interface, or for a group of interfaces, where an address does (pf.conf(5), "PARAMETERS"):
-    /// `word` and `word:0` are the address, `word:network` is the network, and `word:broadcast` its last address. More than
-    /// 32 bits count as 32.
+    /// Adds what stands for an interface, or for a group of interfaces, in the place of an address (pf.conf(5),
+    /// "PARAMETERS"): `word` and `word:0` are the address, `word:network` is the network, and `word:broadcast` its last
+    /// address. More than 32 bits count as 32.
     #[tactic(auto, unfolding(crate::specs::Files::forms))]
     pub fn add_forms(&mut self, alloc: Global, word: &[u8], network: &Net) -> Result<(), AllocError>
         ensures { OnOk result (self.new.entries ≡ self.old.entries ++ spec.forms word.now network.now) }

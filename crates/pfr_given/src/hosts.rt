@@ -53,9 +53,9 @@ impl Given {
         }
     }
 
-    /// Adds the names of a text in the form of hosts(5): an address and its names on each line, and comments from a `#` on.
-    /// Blanks, tabs and carriage returns separate words. A line of which the address is not an IPv4 one gives nothing. A name
-    /// that has several lines has an entry for each, in order.
+    /// Adds the names of a text in the form of hosts(5): an address and its names on each line, and comments from a `#`
+    /// on. Blanks, tabs and carriage returns separate words. A line whose address is not an IPv4 address gives nothing.
+    /// A name that has several lines has an entry for each, in order.
     pub fn add_hosts(&mut self, alloc: Global, text: &[u8]) -> Result<(), AllocError>
         ensures { OnOk result (self.new.entries ≡ self.old.entries ++ spec.hosts text.now) }
     {

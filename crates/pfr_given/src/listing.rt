@@ -38,7 +38,7 @@ impl Listing {
     }
 }
 
-/// The texts that stand for the word that is made of a word and a suffix, as this subject, with `, ` between each two.
+/// The texts that stand for `word` followed by `suffix`, as this subject, with `, ` between each two.
 #[tactic(auto, unfolding(crate::specs::Entries::texts_of))]
 pub fn joined(
     alloc: Global,

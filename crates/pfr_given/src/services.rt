@@ -37,7 +37,7 @@ fn port_number(digits: &[u8]) -> Option<u64>
     if port < NO_PORT { Some(port) } else { None }
 }
 
-/// The port of TCP or UDP that is written: `port/protocol`.
+/// The port of TCP or UDP that a word `port/protocol` says.
 #[tactic(auto, unfolding(crate::specs::Services::port_of))]
 fn port_of(value: &[u8]) -> Option<u64>
     ensures { result ≡ spec.port_of value.now }
@@ -84,7 +84,7 @@ fn is_known(entries: &[Entry], word: &[u8]) -> bool
 }
 
 impl Given {
-    /// Adds a name of a port, unless an entry from a place on has it.
+    /// Adds a name of a port, unless an entry from `start` on has it.
     fn add_name(
         &mut self,
         alloc: Global,
@@ -101,7 +101,7 @@ impl Given {
         self.add(alloc, Subject::Service, name, b"", port)
     }
 
-    /// Adds names of a port that no entry from a place on has.
+    /// Adds names of a port that no entry from `start` on has.
     fn add_aliases(
         &mut self,
         alloc: Global,
@@ -120,7 +120,7 @@ impl Given {
         Ok(())
     }
 
-    /// Adds the name and the aliases of a port that no entry from a place on has.
+    /// Adds the name and the aliases of a port that no entry from `start` on has.
     #[tactic(auto, using(crate::proofs::ServiceLemmas::one_name))]
     fn add_port(
         &mut self,
@@ -152,9 +152,10 @@ impl Given {
         Ok(next)
     }
 
-    /// Adds the ports of a text in the form of services(5): a name, `port/protocol` and aliases on each line, and comments from
-    /// a `#` on. Protocols other than TCP and UDP, and numbers above 65535, give nothing. Lines with one port that stand one
-    /// behind the other, as those of TCP and UDP do, give each name once; a line that gives nothing doesn't part them.
+    /// Adds the ports of a text in the form of services(5): a name, `port/protocol` and aliases on each line, and
+    /// comments from a `#` on. Protocols other than TCP and UDP, and numbers above 65535, give nothing. Lines with one
+    /// port that stand one behind the other, as those of TCP and UDP do, give each name once; a line that gives nothing
+    /// doesn't part them.
     #[tactic(auto, unfolding(crate::specs::Services::services))]
     pub fn add_services(&mut self, alloc: Global, text: &[u8]) -> Result<(), AllocError>
         ensures { OnOk result (self.new.entries ≡ self.old.entries ++ spec.services text.now) }

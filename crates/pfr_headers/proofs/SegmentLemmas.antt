@@ -190,7 +190,7 @@ udp_datagram d p end to u there is are address port some before =
     (port_covered from n (p.protocol.0 + n) (length d) end long (omega arith) (omega (arith, fits))) (carried_covered from n (p.protocol.0 + n) (length d) 3 (from + 6) long (omega arith) (omega arith) (omega (arith, fits))) some before in
     rw (is, with_append header (udp_words d from end (difference_of d (address_words (address_place end) to.address)) to.port) d) v
 
--- where there is no UDP checksum there is none afterwards
+-- if there is no UDP checksum there is none afterwards
 pub no_checksum : (d : List ℕ) (p : Packet) (end : End) (to : Endpoint) (u : UdpHeader) → packet_of p.sender d ≡ Some p → p.transport ≡ Udp u → word_at d (p.header_length + 6) ≡ 0 → word_at (with_words (packet_words d p end to) d) (p.header_length + 6) ≡ 0
 unfolding packet_words udp_words
 no_checksum d p end to u there is none =

@@ -242,7 +242,7 @@ other_port : (end : End) (source destination : Port) → of_end (other_end end) 
 other_port Source source destination = refl
 other_port Destination source destination = refl
 
--- the error's own end is written where it has the address of the end that is translated
+-- the error's own end is written if it has the address of the end that is translated
 outer_address : (end : End) (source destination first second : Ipv4Address) → (end_address end source destination).0 ≡ (end_address (other_end end) first second).0 → of_other end first second ≡ of_end end source destination
 outer_address Source source destination first second same = ap (λ (n : ℕ). record { 0 = n }) (sym same)
 outer_address Destination source destination first second same = ap (λ (n : ℕ). record { 0 = n }) (sym same)

@@ -71,7 +71,7 @@ pub record Covers (sum : List ℕ → ℕ) (size place : ℕ) : Type 0 where
 pub record Passes (sum : List ℕ → ℕ) (size place : ℕ) : Type 0 where
   pub is : (bytes : List ℕ) (value : ℕ) → length bytes ≡ size → sum (with_word (word place value) bytes) ≡ sum bytes
 
--- the sum over so many bytes from a place on
+-- the sum over `n` bytes, from the place `from` on
 abbrev pub part_sum : ℕ → ℕ → List ℕ → ℕ
 part_sum from n bytes = sum_of (take n (drop from bytes))
 

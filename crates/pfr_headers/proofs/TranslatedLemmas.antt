@@ -1,5 +1,5 @@
--- A packet that embeds no other is seen, once it is rewritten, as the packet behind its translation: of all that its view
--- reads only the end that is translated is written, and there stands what was written.
+-- A packet that embeds no other is seen, once it is rewritten, as the packet behind its translation: of all that its
+-- view reads only the end that is translated is written, and there stands what was written.
 use Rattle.std.specs.Prelude.{⊤}
 use Rattle.std.proofs.Common.{◌≡◌, ◌⊎◌, inl, inr, ◌≤◌, ◌<◌, ◌-◌, ◌+◌, ◌*◌, ◌/◌, ◌%◌, ℕ, zero, suc, Bool, List, [], ◌∷◌, length, drop, slice_index, Option, Some, None, refl, sym, ◌∙◌, ap, subst, arith}
 use Rattle.std.proofs.lemmas.Grind.{same_number_lists}
@@ -51,7 +51,8 @@ other_most : (end : End) → of_other end 12 16 ≤ 16
 other_most Source = omega arith
 other_most Destination = omega arith
 
--- of a message none before its checksum, and of any transport none before it; the others are the same wherever it begins
+-- of a message none before its checksum, and of any transport none before it; the others are the same wherever it
+-- begins
 in_message : (at : ℕ) (end : End) (m : IcmpMessage) (byte : ℕ) → embedded_by m ≡ None → IsOfMessage at end m byte → (at + 2 ≤ byte) × IsOfMessage 0 end m (byte - at)
 in_message at end (message.Echo identifier) byte none (low, high) = (omega arith, (omega arith, omega arith))
 in_message at end (message.Error inner) byte none of = absurd (cc)
@@ -101,7 +102,7 @@ stays_behind p end now d none long stays =
 
 -- ---- what stands behind the header afterwards
 
--- the two numbers of both ends, where the one of an end was written and the other one stays
+-- the numbers of both ends, if the number of one end was written and the other one stays
 ends_read : (end : End) (n a b value first second : ℕ) (now old : List ℕ) → big_number n (drop (of_end end a b) now) ≡ value → big_number n (drop (of_other end a b) now) ≡ big_number n (drop (of_other end a b) old) → first ≡ big_number n (drop a old) → second ≡ big_number n (drop b old) → (of_end end value first ≡ big_number n (drop a now)) × (of_end end second value ≡ big_number n (drop b now))
 ends_read Source n a b value first second now old read same is_first is_second = (sym read, is_second ∙ sym same)
 ends_read Destination n a b value first second now old read same is_first is_second = (is_first ∙ sym same, sym read)
@@ -287,7 +288,7 @@ port_read d bytes at end addresses port (Udp u) small fits =
 port_read d bytes at end addresses port (Icmp i) small fits = message_read d bytes at port i.message small fits
 port_read d bytes at end addresses port Other small fits = record {}
 
--- a word in front of the transport stays where that is written
+-- a word in front of the transport stays when the transport is written
 message_kept : (d bytes : List ℕ) (at : ℕ) (port : Port) (m : IcmpMessage) (place : ℕ) → at + 8 ≤ length bytes → place + 2 ≤ at → word_at (with_words (echo_or_none d at port m) bytes) place ≡ word_at bytes place
 message_kept d bytes at port (message.Echo identifier) place room before = outside (echo_words d at port) bytes at (at + 8) place (echo_span d at port) room (inr before)
 message_kept d bytes at port (message.Error inner) place room before = refl

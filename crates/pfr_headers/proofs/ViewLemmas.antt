@@ -175,7 +175,7 @@ view_is link bytes (Ipv4 p) is =
 view_is link bytes Short is = rw (place_is link bytes is.0 is.1) (too_short (sender_of link bytes) (drop is.0 bytes) (packet_of (sender_of link bytes) (drop is.0 bytes)) refl is.2)
 view_is link bytes Skip is = skipped link bytes (place_of link bytes) refl is
 
--- where none is found with one sender, there is none with another
+-- if no packet is found with one sender, none is with another
 none_there : (sender other : Option EthernetAddress) (d : List ℕ) (found : Option Transport) → with_transport sender d found ≡ None → with_transport other d found ≡ None
 none_there sender other d None e = refl
 none_there sender other d (Some t) e = none_some (fields_of sender d t) (Some (fields_of sender d t)) refl e

@@ -1,4 +1,4 @@
--- The Internet checksum (RFC 1071, section 1) and how it is mended where words under it change (RFC 1624,
+-- The Internet checksum (RFC 1071, section 1) and how it is mended when words under it change (RFC 1624,
 -- equation 3: HC' = ~(~HC + ~m + m')).
 use Rattle.std.specs.Prelude.{◌≡◌, ◌<◌, slice_index, ℕ, zero, suc, ◌+◌, ◌*◌, ◌-◌, ◌%◌, ◌==◌, if◌then◌else◌, List, [], ◌∷◌, ◌++◌, take, drop}
 use Rattle.byteorder.specs.Endian.{big_bytes, big_number}
@@ -22,16 +22,16 @@ pub record Word : Type 0 where
 abbrev pub word : ℕ → ℕ → Word
 word place value = record { place = place; value = value }
 
--- what a changed word brings to the sum, ~m + m'; one that is written with the value it had isn't changed
+-- what a changed word adds to the sum, ~m + m'; a word that is written with the value it had isn't changed
 abbrev pub difference : ℕ → ℕ → ℕ
 difference old new = if old == new then 0 else complement old + new
 
--- what written words bring
+-- what written words add to the sum
 abbrev pub difference_of : List ℕ → List Word → ℕ
 difference_of bytes [] = 0
 difference_of bytes (w ∷ ws) = difference (word_at bytes w.place) w.value + difference_of bytes ws
 
--- a checksum that is mended for these differences, by one sum
+-- a checksum that is mended for changed words, which add `sum`
 unfoldable pub mended : ℕ → ℕ → ℕ
 mended checksum sum = complement (end_around (complement checksum + sum))
 
@@ -47,12 +47,12 @@ abbrev pub with_words : List Word → List ℕ → List ℕ
 with_words [] bytes = bytes
 with_words (w ∷ ws) bytes = with_words ws (with_word w bytes)
 
--- the sum of the first so many words
+-- the sum of the first `count` words
 abbrev pub sum_of_words : ℕ → List ℕ → ℕ
 sum_of_words zero bytes = 0
 sum_of_words (suc count) bytes = word_at bytes 0 + sum_of_words count (drop 2 bytes)
 
--- a sum of words with a checksum among them verifies where it comes to all ones, its carries added in: where it is a
+-- a sum of words with a checksum among them verifies if it comes to all ones, its carries added in: if it is a
 -- multiple of 65535, and not 0
 abbrev pub Verifies : ℕ → Type 0
 Verifies sum = (0 < sum) × (sum % 65535 ≡ 0)
@@ -61,6 +61,6 @@ Verifies sum = (0 < sum) × (sum % 65535 ≡ 0)
 abbrev pub AreBytes : List ℕ → Type 0
 AreBytes bytes = (i : ℕ) → slice_index bytes i < 256
 
--- the checksum of an IPv4 header of so many bytes, which begins at a place, verifies (RFC 791, section 3.1)
+-- the checksum of an IPv4 header of `length` bytes, which begins at `place`, verifies (RFC 791, section 3.1)
 abbrev pub HeaderVerifies : ℕ → ℕ → List ℕ → Type 0
 HeaderVerifies place length bytes = (count : ℕ) → 2 * count ≡ length → Verifies (sum_of_words count (drop place bytes))

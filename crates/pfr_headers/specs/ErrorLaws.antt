@@ -1,7 +1,8 @@
 -- Laws of an ICMP error that embeds a packet (RFC 792), once it is translated (RFC 5508, section 4.2).
 --
--- An error goes back to the source of the packet that it embeds. If the error's destination is translated, the embedded packet
--- gets a new source; if the error's source is translated, the embedded packet gets a new destination. Type and code stay.
+-- An error goes back to the source of the packet that it embeds. If the error's destination is translated, the embedded
+-- packet gets a new source; if the error's source is translated, the embedded packet gets a new destination. Type and
+-- code stay.
 use Rattle.std.specs.Prelude.{◌≡◌, ◌≤◌, ◌<◌, ℕ, ◌+◌, ◌-◌, ◌^◌, ◌==◌, if◌then◌else◌, List, take, drop, slice_index}
 use Rattle.pfr_net.specs.declared.address.Ipv4Address.{Ipv4Address}
 use Rattle.pfr_net.specs.declared.endpoint.Endpoint.{Endpoint}
@@ -35,8 +36,8 @@ sent_to new inner =
     then record inner { destination = new.address; source_port = new.port; destination_port = new.port }
     else record inner { destination = new.address; destination_port = new.port }
 
--- The error's own address becomes the new one too if it is the address that the embedded packet had. Else it is that of a
--- router, which reports on another host's packet, and stays.
+-- The error's own address becomes the new one too if it is the address that the embedded packet had. Else it is that of
+-- a router, which reports on another host's packet, and stays.
 abbrev pub goes_with : Ipv4Address → Ipv4Address → Ipv4Address → Ipv4Address
 goes_with own embedded new = if own.0 == embedded.0 then new else own
 
@@ -95,7 +96,7 @@ RewrittenErrorIsTranslated =
     → change.to.port.0 < 2 ^ 16
     → view_of link (rewritten link change bytes) ≡ Ipv4 (translated_error change.end change.to change.packet icmp inner)
 
--- the checksum of the embedded IPv4 header verifies behind the rewriting where it did before
+-- the checksum of the embedded IPv4 header verifies behind the rewriting if it did before
 abbrev pub EmbeddedHeaderStillVerifies : Type 0
 EmbeddedHeaderStillVerifies =
     (link : ℕ) (bytes : List ℕ) (change : Change) (inner : Inner) (begins : ℕ)
@@ -123,7 +124,7 @@ EmbeddedNoChecksumStays =
     → udp_checksum_of (drop begins bytes) ≡ 0
     → udp_checksum_of (drop begins (rewritten link change bytes)) ≡ 0
 
--- the checksum of an embedded echo does too, but where all words come out as 0
+-- the checksum of an embedded echo does too, unless all words come out as 0
 abbrev pub EmbeddedEchoStillVerifies : Type 0
 EmbeddedEchoStillVerifies =
     (link : ℕ) (bytes : List ℕ) (change : Change) (inner : Inner) (begins : ℕ)

@@ -1,9 +1,9 @@
--- Words of the laws: what stands at an end of a packet, where a translation may write, and the checksums of what a packet
--- carries.
+-- Words of the laws: what stands at an end of a packet, where a translation may write, and the checksums of what a
+-- packet carries.
 --
--- IPv4 (RFC 791, section 3.1): checksum at 10, source at 12, destination at 16. Behind the header: TCP (RFC 9293, section
--- 3.1): ports at 0 and 2, checksum at 16. UDP (RFC 768): ports at 0 and 2, checksum at 6. ICMP (RFC 792): checksum at 2, an
--- echo's identifier at 4, the packet that an error embeds at 8.
+-- IPv4 (RFC 791, section 3.1): checksum at 10, source at 12, destination at 16. Behind the header: TCP (RFC 9293,
+-- section 3.1): ports at 0 and 2, checksum at 16. UDP (RFC 768): ports at 0 and 2, checksum at 6. ICMP (RFC 792):
+-- checksum at 2, an echo's identifier at 4, the packet that an error embeds at 8.
 use Rattle.std.specs.Prelude.{◌≡◌, ◌⊎◌, ◌≤◌, ◌<◌, ℕ, ◌+◌, ◌*◌, ◌-◌, ◌^◌, List, [], ◌∷◌, take, drop, Some, None, ⊤, slice_index}
 use Rattle.pfr_net.specs.declared.endpoint.Endpoint.{Endpoint}
 use Rattle.pfr_headers.specs.declared.change.Change.{Change}
@@ -25,7 +25,7 @@ use Rattle.pfr_headers.specs.declared.icmp.IcmpHeader.{IcmpHeader}
 
 -- ---- ends
 
--- of two things the one of an end, and the one of the other end
+-- of `source` and `destination` the one of an end, and the one of the other end
 abbrev pub of_end : {A : Type 0} → End → A → A → A
 of_end Source source destination = source
 of_end Destination source destination = destination
@@ -34,8 +34,8 @@ abbrev pub of_other : {A : Type 0} → End → A → A → A
 of_other Source source destination = destination
 of_other Destination source destination = source
 
--- what stands at an end of a packet: its address, and its port or an echo's identifier; in an error it is what stands at the
--- other end of the packet that it embeds
+-- what stands at an end of a packet: its address, and its port or an echo's identifier; in an error it is what stands
+-- at the other end of the packet that it embeds
 abbrev pub StandsInMessage : Packet → End → Endpoint → IcmpMessage → Type 0
 StandsInMessage p end to (message.Echo identifier) = to ≡ record { address = of_end end p.source p.destination; port = record { 0 = identifier } }
 StandsInMessage p end to (message.Error inner) = to ≡ record { address = of_other end inner.source inner.destination; port = of_other end inner.source_port inner.destination_port }
@@ -50,7 +50,7 @@ StandsIn p end to Other = to.address ≡ of_end end p.source p.destination
 
 -- ---- where a translation may write
 
--- a byte of so many that begin at a place
+-- a byte is one of `size` bytes that begin at `place`
 abbrev pub IsIn : ℕ → ℕ → ℕ → Type 0
 IsIn place size byte = (place ≤ byte) × (byte < place + size)
 
@@ -93,8 +93,7 @@ IsOfEnd p end byte = IsOfHeader 0 (of_end end 12 16) byte ⊎ IsOfTransport p.he
 
 -- ---- checksums
 
--- the sum of bytes as 16-bit words, of which the first byte is the higher one; a 0 stands behind a last byte alone (RFC
--- 1071, section 1)
+-- the sum of bytes as big-endian 16-bit words; a 0 stands behind a last byte alone (RFC 1071, section 1)
 abbrev pub sum_of : List ℕ → ℕ
 sum_of [] = 0
 sum_of (high ∷ []) = 256 * high
@@ -108,8 +107,8 @@ carried d p = take (p.total_length - p.header_length) (drop p.header_length d)
 abbrev pub message_sum : List ℕ → Packet → ℕ
 message_sum d p = sum_of (carried d p)
 
--- those of TCP and UDP are over a pseudo header too: both addresses, the protocol, and the length of what is carried (RFC
--- 9293, section 3.1; RFC 768)
+-- TCP's and UDP's checksums are over a pseudo header too: both addresses, the protocol, and the length of what is
+-- carried (RFC 9293, section 3.1; RFC 768)
 abbrev pub segment_sum : List ℕ → Packet → ℕ
 segment_sum d p = sum_of (take 8 (drop 12 d)) + (p.protocol.0 + (p.total_length - p.header_length)) + sum_of (carried d p)
 
@@ -128,7 +127,7 @@ pub record IsTranslated (link : ℕ) (bytes : List ℕ) (change : Change) (place
 
 -- ---- what the laws say
 
--- an IPv4 header's checksum verifies behind the rewriting where it did before
+-- an IPv4 header's checksum verifies behind the rewriting if it did before
 abbrev pub HeaderStillVerifies : Type 0
 HeaderStillVerifies =
     (link : ℕ) (bytes : List ℕ) (change : Change) (place : ℕ)
@@ -139,7 +138,7 @@ HeaderStillVerifies =
     → HeaderVerifies place change.packet.header_length bytes
     → HeaderVerifies place change.packet.header_length (rewritten link change bytes)
 
--- a mended checksum verifies, but where all words come out as 0
+-- a mended checksum verifies, unless all words come out as 0
 abbrev pub MendedVerifies : Type 0
 MendedVerifies =
     (rest rest' brought checksum rounds : ℕ)
@@ -168,7 +167,7 @@ OtherBytesStay =
     → (place ≤ byte → IsOfEnd change.packet change.end (byte - place) → ⊥)
     → slice_index (rewritten link change bytes) byte ≡ slice_index bytes byte
 
--- TCP's checksum verifies behind the rewriting where it did before
+-- TCP's checksum verifies behind the rewriting if it did before
 abbrev pub TcpStillVerifies : Type 0
 TcpStillVerifies =
     (link place : ℕ) (bytes : List ℕ) (change : Change) (t : TcpHeader)
@@ -177,7 +176,7 @@ TcpStillVerifies =
     → Verifies (segment_sum (drop place bytes) change.packet)
     → Verifies (segment_sum (drop place (rewritten link change bytes)) change.packet)
 
--- UDP's, where there is one
+-- UDP's does too, if there is one
 abbrev pub UdpStillVerifies : Type 0
 UdpStillVerifies =
     (link place : ℕ) (bytes : List ℕ) (change : Change) (u : UdpHeader)
@@ -196,7 +195,7 @@ NoChecksumStays =
     → word_at (drop place bytes) (change.packet.header_length + 6) ≡ 0
     → word_at (drop place (rewritten link change bytes)) (change.packet.header_length + 6) ≡ 0
 
--- ICMP's, but where all words come out as 0
+-- ICMP's does too, unless all words come out as 0
 abbrev pub IcmpStillVerifies : Type 0
 IcmpStillVerifies =
     (link place : ℕ) (bytes : List ℕ) (change : Change) (i : IcmpHeader)
@@ -207,7 +206,7 @@ IcmpStillVerifies =
     → 0 < message_sum (drop place (rewritten link change bytes)) change.packet
     → Verifies (message_sum (drop place (rewritten link change bytes)) change.packet)
 
--- a packet that is rewritten to what stands at that end of it is the same
+-- a packet stays the same if an end is rewritten to what stands there already
 abbrev pub SameEndChangesNothing : Type 0
 SameEndChangesNothing =
     (link : ℕ) (bytes : List ℕ) (change : Change)

@@ -44,7 +44,7 @@ header_words d header end address =
     address_words (header + address_place end) address
     ++ (word (header + 10) (mended (word_at d (header + 10)) (difference_of d (address_words (header + address_place end) address))) ∷ [])
 
--- a port of the TCP header that begins at a place, with its checksum, for which the addresses bring so much
+-- a port of the TCP header that begins at `at`, with its checksum, to which the addresses add `addresses`
 unfoldable pub tcp_words : List ℕ → ℕ → End → ℕ → Port → List Word
 tcp_words d at end addresses port =
     word (at + port_place end) port.0
@@ -80,7 +80,7 @@ abbrev pub end_address : End → Ipv4Address → Ipv4Address → Ipv4Address
 end_address Source source destination = source
 end_address Destination source destination = destination
 
--- the error's own header, where it has the address of the end that is translated
+-- the error's own header, if it has the address of the end that is translated
 unfoldable pub outer_words : List ℕ → Packet → Inner → End → Endpoint → List Word
 outer_words d p inner end to =
     if (end_address end p.source p.destination).0 == (end_address (other_end end) inner.source inner.destination).0

@@ -19,7 +19,7 @@ ends options =
 abbrev pub is_scale : List ℕ → Bool
 is_scale options = slice_index options 0 == 3 && slice_index options 1 == 3
 
--- the scale among the first options, at most so many of them
+-- the scale among the first options; the number says how many are read at most
 abbrev pub scale_within : ℕ → List ℕ → Option ℕ
 scale_within zero options = None
 scale_within (suc n) options =

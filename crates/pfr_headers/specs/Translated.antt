@@ -1,5 +1,5 @@
--- A packet behind a translation: another address stands at one of its ends, and another port or identifier where it has one
--- there. In an ICMP error the packet that it embeds stays.
+-- A packet behind a translation: another address stands at one of its ends, and another port or identifier if it has
+-- one. In an ICMP error the packet that it embeds stays.
 use Rattle.pfr_net.specs.declared.endpoint.Endpoint.{Endpoint}
 use Rattle.pfr_net.specs.declared.port.Port.{Port}
 use Rattle.pfr_headers.specs.declared.change.End.{End}

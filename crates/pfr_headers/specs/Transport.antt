@@ -95,7 +95,7 @@ IsTransport protocol fragment whole s (Udp u) = (fragment ≡ false) × (protoco
 IsTransport protocol fragment whole s (Icmp i) = (fragment ≡ false) × (protocol ≡ 1) × IsIcmp whole s i
 IsTransport protocol fragment whole s Other = (fragment ≡ false) × (protocol ≢ 6) × (protocol ≢ 17) × (protocol ≢ 1)
 
--- the same as functions; None where the header isn't there as it should be
+-- the same as functions; None if the header isn't there as it should be
 abbrev pub has_tcp : ℕ → List ℕ → Bool
 has_tcp whole s = not (nat_lt (length s) 20 || (nat_lt (tcp_length_of s) 20 || (nat_lt (length s) (tcp_length_of s) || nat_lt whole (tcp_length_of s))))
 

@@ -30,7 +30,7 @@ total_length_of d = big_number 2 (drop 2 d)
 abbrev pub fragment_of : List ℕ → ℕ
 fragment_of d = big_number 2 (drop 6 d) % 16384
 
--- a packet is a fragment where more follow or where it isn't the first
+-- a packet is a fragment if more follow or if it isn't the first
 abbrev pub is_fragment : List ℕ → Bool
 is_fragment d = not (fragment_of d == 0)
 
@@ -89,13 +89,13 @@ pub record IsTagged (link : ℕ) (bytes : List ℕ) (place : ℕ) : Type 0 where
 abbrev pub HoldsIpv4 : ℕ → List ℕ → ℕ → Type 0
 HoldsIpv4 link bytes place = IsRaw link bytes place ⊎ IsLoopback link bytes place ⊎ IsEthernet link bytes place ⊎ IsTagged link bytes place
 
--- The address from which a frame was sent: bytes 6 to 11 of an Ethernet frame (IEEE 802.3, clause 3.2). Frames of other links have
--- none.
+-- The address from which a frame was sent: bytes 6 to 11 of an Ethernet frame (IEEE 802.3, clause 3.2). Frames of other
+-- links have none.
 unfoldable pub sender_of : ℕ → List ℕ → Option EthernetAddress
 sender_of link bytes = if link == 1 && not (nat_lt (length bytes) 12) then Some (record { 0 = take 6 (drop 6 bytes) }) else None
 
--- What a frame is: a packet, by its sender and the headers of its datagram; one whose headers are not there as they should
--- be; or no IPv4 packet.
+-- What a frame is: a packet, by its sender and the headers of its datagram; one whose headers are not there as they
+-- should be; or no IPv4 packet.
 abbrev pub IsView : ℕ → List ℕ → View → Type 0
 IsView link bytes (Ipv4 p) = (place : ℕ) × HoldsIpv4 link bytes place × IsPacket (drop place bytes) p × (p.sender ≡ sender_of link bytes)
 IsView link bytes Short = (place : ℕ) × HoldsIpv4 link bytes place × ((p : Packet) → IsPacket (drop place bytes) p → ⊥)
@@ -124,7 +124,7 @@ place_of link bytes =
 abbrev pub has_header : List ℕ → Bool
 has_header d = not (nat_lt (length d) 20 || (not (version_of d == 4) || (nat_lt (header_length_of d) 20 || (nat_lt (length d) (header_length_of d) || nat_lt (total_length_of d) (header_length_of d)))))
 
--- a datagram's packet, and its fields, with the sender of its frame
+-- the packet of a datagram's fields, with the sender of its frame
 unfoldable pub fields_of : Option EthernetAddress → List ℕ → Transport → Packet
 fields_of sender d transport = record {
   sender = sender;

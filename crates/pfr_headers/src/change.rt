@@ -9,8 +9,8 @@ pub enum End {
     Destination,
 }
 
-/// A packet of which one end is translated. In an ICMP error that embeds a packet, it is the other end of that
-/// packet that is translated, and with it the error's own end where that has the same address.
+/// A packet of which one end is translated. In an ICMP error the other end of the embedded packet is translated, and
+/// the error's own end too if it has the same address.
 #[derive(Clone, Copy)]
 pub struct Change {
     /// The packet as its view has it.

@@ -6,7 +6,7 @@ ghost use Rattle.pfr_headers.specs.Rewriting.{address_words};
 use byteorder::{BigEndian, ByteOrder};
 use pfr_net::Ipv4Address;
 
-/// Writes a 16-bit word, and answers what that brings to the sums over it.
+/// Writes a 16-bit word, and answers what that adds to the sums over it.
 #[inline]
 #[tactic(auto, unfolding(crate::specs::Checksum::with_word))]
 pub fn put_word(bytes: &mut [u8], place: usize, value: u16) -> u32
@@ -20,7 +20,7 @@ pub fn put_word(bytes: &mut [u8], place: usize, value: u16) -> u32
     difference(old, value)
 }
 
-/// What a changed word brings to the sums over it (RFC 1624, equation 3).
+/// What a changed word adds to the sums over it (RFC 1624, equation 3).
 #[inline]
 fn difference(old: u16, new: u16) -> u32
     ensures brings { result ≡ difference old new }
@@ -32,7 +32,7 @@ fn difference(old: u16, new: u16) -> u32
     u32::from(65535 - old) + u32::from(new)
 }
 
-/// Writes an address, and answers what that brings to the sums over it.
+/// Writes an address, and answers what that adds to the sums over it.
 #[inline]
 #[tactic(auto, using(crate::proofs::WordLemmas::next_kept))]
 pub fn put_address(bytes: &mut [u8], place: usize, address: Ipv4Address) -> u32
@@ -46,7 +46,7 @@ pub fn put_address(bytes: &mut [u8], place: usize, address: Ipv4Address) -> u32
     high + low
 }
 
-/// A checksum mended for what the changes under it bring.
+/// A checksum mended for changed words under it, which add `sum`.
 #[inline]
 #[tactic(auto, unfolding(crate::specs::Checksum::mended))]
 pub fn mended(checksum: u16, sum: u32) -> u16
@@ -83,7 +83,7 @@ pub fn mended_udp(checksum: u16, sum: u32) -> u16
     }
 }
 
-/// Mends the checksum at a place, and answers what that brings to the sums over it.
+/// Mends the checksum at a place, and answers what that adds to the sums over it.
 #[inline]
 pub fn mend(bytes: &mut [u8], place: usize, sum: u32) -> u32
     requires place { place + 2 ≤ length bytes.old }
@@ -96,7 +96,7 @@ pub fn mend(bytes: &mut [u8], place: usize, sum: u32) -> u32
     put_word(bytes, place, mended(checksum, sum))
 }
 
-/// Mends the UDP checksum at a place, and answers what that brings to the sums over it.
+/// Mends the UDP checksum at a place, and answers what that adds to the sums over it.
 #[inline]
 pub fn mend_udp(bytes: &mut [u8], place: usize, sum: u32) -> u32
     requires place { place + 2 ≤ length bytes.old }

@@ -44,7 +44,8 @@ fn is_raw(bytes: &[u8]) -> bool
     !bytes.is_empty() && bytes[0] / 16 == 4
 }
 
-/// Whether a BSD loopback frame does: its address family is 2, in the byte order of the machine that captured.
+/// Whether a BSD loopback frame holds an IPv4 datagram: its address family is 2, in the byte order of the machine that
+/// captured.
 #[inline]
 fn is_loopback(bytes: &[u8]) -> bool
     ensures { result ≡ is_loopback bytes.now }
@@ -52,7 +53,7 @@ fn is_loopback(bytes: &[u8]) -> bool
     bytes.len() >= 4 && (BigEndian::read_u32(bytes) == 2 || LittleEndian::read_u32(bytes) == 2)
 }
 
-/// Whether an Ethernet frame without a tag does.
+/// Whether an Ethernet frame without a tag holds an IPv4 datagram.
 #[inline]
 fn is_ethernet(bytes: &[u8]) -> bool
     ensures { result ≡ is_ethernet bytes.now }
@@ -60,7 +61,7 @@ fn is_ethernet(bytes: &[u8]) -> bool
     bytes.len() >= 14 && BigEndian::read_u16(&bytes[12..]) == 0x0800
 }
 
-/// Whether an Ethernet frame with one tag does.
+/// Whether an Ethernet frame with one tag holds an IPv4 datagram.
 #[inline]
 fn is_tagged(bytes: &[u8]) -> bool
     ensures { result ≡ is_tagged bytes.now }

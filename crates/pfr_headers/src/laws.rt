@@ -20,27 +20,26 @@ pub fn header_still_verifies()
     ensures { HeaderStillVerifies }
 {}
 
-/// A checksum that verifies with the words under it still does after it was mended for what changes among these words
-/// bring: their sum goes from `rest` to `rest'`, but for rounds of 65535. The one exception is where all words come out
-/// as 0, the checksum among them: their sum is 0 then. For UDP, where a checksum of 0 says that there is none, there
-/// is no exception.
+/// A checksum that verifies still does after words under it changed and it was mended for them: their sum goes from
+/// `rest` to `rest'`, but for multiples of 65535. The one exception: all words come out as 0, the checksum among them,
+/// and their sum is 0. UDP has no exception, since a checksum of 0 says there that there is none.
 pub fn checksums_still_verify()
     ensures any { MendedVerifies }
     ensures udp { MendedUdpVerifies }
 {}
 
-/// A frame keeps its length when its packet is rewritten, and what is no part of the address, the port or the identifier of
-/// the end that is translated, or of a checksum over them, stays as it is. An error's TCP checksum stays too, of the packet
-/// that it embeds.
+/// A frame keeps its length when its packet is rewritten. Only the address, the port or identifier of the translated
+/// end and the checksums over them change; every other byte stays. The TCP checksum of a packet that an error embeds
+/// stays too.
 pub fn the_rest_stays()
     ensures length { (link : ℕ) (bytes : List ℕ) (change : Change) → view_of link bytes ≡ Ipv4 change.packet → length (rewritten link change bytes) ≡ length bytes }
     ensures bytes { OtherBytesStay }
 {}
 
-/// The checksum of what a packet carries still verifies after the packet was rewritten: that of TCP, that of UDP where there is
-/// one (where there is none, there is none afterwards), and that of ICMP, of an error with all that changes in the packet that
-/// it embeds. The one exception is an ICMP message of which all words come out as 0, and an error whose total length ends
-/// before what is translated in it.
+/// The checksum of what a packet carries still verifies after the packet was rewritten: TCP's, UDP's if there is one
+/// (if there is none, there is none afterwards), and ICMP's, which in an error is over the embedded packet too. The
+/// exceptions are an ICMP message of which all words come out as 0, and an error whose total length ends before what is
+/// translated in it.
 pub fn carried_checksums_still_verify()
     ensures tcp { TcpStillVerifies }
     ensures udp { UdpStillVerifies }
@@ -48,13 +47,13 @@ pub fn carried_checksums_still_verify()
     ensures icmp { IcmpStillVerifies }
 {}
 
-/// A packet that is rewritten to what stands at that end of it is the same, byte for byte.
+/// A packet stays the same, byte for byte, if an end is rewritten to what stands there already.
 pub fn what_stands_there_changes_nothing()
     ensures { SameEndChangesNothing }
 {}
 
-/// What is written is what is judged: a packet that embeds no other is seen, once it is rewritten, as the packet behind its
-/// translation.
+/// What is written is what is judged: a packet that embeds no other is seen, once it is rewritten, as the packet behind
+/// its translation.
 pub fn what_is_written_is_the_translated_packet()
     ensures { RewrittenIsTranslated }
 {}
@@ -66,10 +65,10 @@ pub fn what_is_written_is_the_translated_error()
     ensures { RewrittenErrorIsTranslated }
 {}
 
-/// The checksums of the packet that an error embeds still verify after the error was rewritten: that of its IPv4
-/// header, that of UDP if there is one (if there is none, there is none afterwards), and that of an echo, but where all
-/// words come out as 0. The last two are over what the embedded packet carries by its own lengths, which must hold its
-/// first 8 bytes, as far as it was captured. A TCP checksum stays as it is.
+/// The checksums of the packet that an error embeds still verify after the error was rewritten: its IPv4 header's,
+/// UDP's if there is one (if there is none, there is none afterwards), and an echo's, unless all words come out as 0.
+/// The last two are over what the embedded packet carries by its own lengths, which must hold its first 8 bytes, as far
+/// as it was captured. A TCP checksum stays as it is.
 pub fn embedded_checksums_still_verify()
     ensures header { EmbeddedHeaderStillVerifies }
     ensures udp { EmbeddedUdpStillVerifies }

@@ -1,8 +1,8 @@
 //! The headers of captured packets, as data.
 //!
-//! [`view`] says what a frame of a capture is: an IPv4 packet, by the fields of its headers, one that is
-//! too short, or something else. [`direction_of`] says which way a packet goes by the inside networks, [`direction_from`] by the
-//! sender of its frame.
+//! [`view`] says what a frame of a capture is: an IPv4 packet with the fields of its headers, one that is too short, or
+//! something else. [`direction_of`] says which way a packet goes by the inside networks, [`direction_from`] by the
+//! sender of its frame. [`rewrite`] translates one end of a packet in place.
 #![tactic(auto)]
 
 pub mod change;

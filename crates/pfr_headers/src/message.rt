@@ -7,7 +7,7 @@ use crate::packet::LEAST_HEADER;
 use byteorder::{BigEndian, ByteOrder};
 use pfr_net::{Ipv4Address, Port, Protocol};
 
-/// The length of an ICMP header.
+/// The length of an ICMP header in bytes.
 pub(crate) const ICMP_HEADER: usize = 8;
 
 /// The ICMP header at the front.

@@ -10,7 +10,7 @@ use crate::transport::Transport;
 use byteorder::{BigEndian, ByteOrder};
 use pfr_net::{Ipv4Address, Protocol};
 
-/// What a frame is, by the link type of its capture (0 BSD loopback, 1 Ethernet, 101 raw IP; a frame of any other
+/// What a frame is, by the link type of its capture (0 BSD loopback, 1 Ethernet, 101 raw IP; a frame of any other type
 /// is no IPv4 packet) and the bytes that were captured of it.
 #[inline]
 #[tactic(auto, unfolding(crate::specs::View::view_of))]
@@ -77,7 +77,7 @@ fn with_fields(sender: Option<EthernetAddress>, datagram: &[u8], transport: Tran
     }
 }
 
-/// Whether a whole IPv4 header stands at the front, and goes with itself.
+/// Whether a whole IPv4 header stands at the front, and its version and lengths agree.
 #[inline]
 fn has_header(datagram: &[u8]) -> bool
     ensures { result ≡ has_header datagram.now }

@@ -63,8 +63,8 @@ fn end_address(end: End, source: Ipv4Address, destination: Ipv4Address) -> Ipv4A
     }
 }
 
-/// Writes an address into the IPv4 header that begins at a place, and mends its checksum. Answers what the address
-/// brings to the sums over it, and what both bring.
+/// Writes an address into the IPv4 header that begins at `header`, and mends its checksum. Answers what the address
+/// adds to the sums over it, and what address and checksum add together.
 #[inline]
 #[tactic(auto, unfolding(crate::specs::Rewriting::header_words), using(crate::proofs::WordLemmas::address_kept))]
 fn rewrite_header(bytes: &mut [u8], header: usize, end: End, address: Ipv4Address) -> (u32, u32)
@@ -79,7 +79,8 @@ fn rewrite_header(bytes: &mut [u8], header: usize, end: End, address: Ipv4Addres
     (addresses, addresses + checksum)
 }
 
-/// Writes a port into the TCP header that begins at a place, and mends its checksum.
+/// Writes a port into the TCP header that begins at `at`, and mends its checksum, to which the addresses add
+/// `addresses`.
 #[inline]
 #[tactic(auto, unfolding(crate::specs::Rewriting::tcp_words), using(crate::proofs::WordLemmas::kept_behind))]
 fn rewrite_tcp(bytes: &mut [u8], at: usize, end: End, addresses: u32, port: Port)
@@ -91,8 +92,8 @@ fn rewrite_tcp(bytes: &mut [u8], at: usize, end: End, addresses: u32, port: Port
     let _ = mend(bytes, at + 16, addresses + ports);
 }
 
-/// Writes a port into the UDP header that begins at a place, and mends its checksum. Answers what both bring to the
-/// sums over them.
+/// Writes a port into the UDP header that begins at `at`, and mends its checksum, to which the addresses add
+/// `addresses`. Answers what port and checksum add to the sums over them.
 #[inline]
 #[tactic(auto, unfolding(crate::specs::Rewriting::udp_words), using(crate::proofs::WordLemmas::kept_behind))]
 fn rewrite_udp(bytes: &mut [u8], at: usize, end: End, addresses: u32, port: Port) -> u32
@@ -107,8 +108,8 @@ fn rewrite_udp(bytes: &mut [u8], at: usize, end: End, addresses: u32, port: Port
     ports + checksum
 }
 
-/// Writes the identifier of the ICMP echo that begins at a place, and mends its checksum. Answers what both bring to
-/// the sums over them.
+/// Writes the identifier of the ICMP echo that begins at `at`, and mends its checksum. Answers what identifier and
+/// checksum add to the sums over them.
 #[inline]
 #[tactic(auto, unfolding(crate::specs::Rewriting::echo_words), using(crate::proofs::WordLemmas::kept_before))]
 fn rewrite_echo(bytes: &mut [u8], at: usize, identifier: Port) -> u32
@@ -147,8 +148,7 @@ fn rewrite_embedded(
     }
 }
 
-/// Rewrites the packet that an error embeds, whose header begins at a place. Answers what that brings to the sums over
-/// it.
+/// Rewrites the packet that an error embeds, whose header begins at `at`. Answers what that adds to the sums over it.
 #[inline]
 fn rewrite_inner(bytes: &mut [u8], at: usize, inner: &Inner, end: End, to: Endpoint) -> u32
     requires { InnerFits (length bytes.old) at inner.now }
@@ -162,8 +162,8 @@ fn rewrite_inner(bytes: &mut [u8], at: usize, inner: &Inner, end: End, to: Endpo
     header + embedded
 }
 
-/// Rewrites the header of an error, where it has the address of the end that is translated in the packet that it embeds
-///.
+/// Rewrites the header of an error if its address at `end` is the address that is translated in the packet that it
+/// embeds.
 #[inline]
 #[tactic(auto, unfolding(crate::specs::Rewriting::outer_words))]
 fn rewrite_outer(bytes: &mut [u8], packet: &Packet, inner: &Inner, end: End, to: Endpoint)
@@ -190,7 +190,7 @@ fn rewrite_error(bytes: &mut [u8], packet: &Packet, inner: &Inner, end: End, to:
     rewrite_outer(bytes, packet, inner, end, to);
 }
 
-/// Rewrites what stands behind the header of a packet, for which the addresses bring so much.
+/// Rewrites what stands behind the header of a packet. The addresses add `addresses` to a checksum over them.
 #[inline]
 fn rewrite_behind(
     bytes: &mut [u8],
@@ -259,9 +259,9 @@ fn rewrite_datagram(bytes: &mut [u8], change: &Change)
     }
 }
 
-/// Rewrites a frame in place: one end of its packet gets another address and port, and each checksum over a changed word
-/// is mended (RFC 1624, equation 3). A UDP checksum of 0 stays, and one that comes out as 0 is written as 65535. The
-/// packet must be the one that the frame's view has, for the frame's link type.
+/// Rewrites a frame in place: one end of its packet gets another address and port, and each checksum over a changed
+/// word is mended (RFC 1624, equation 3). A UDP checksum of 0 stays, and one that comes out as 0 is written as 65535.
+/// `change.packet` must be the packet of the frame's view, for the frame's link type.
 pub fn rewrite(bytes: &mut [u8], link: u16, change: &Change)
     requires { view_of link bytes.old ≡ Ipv4 change.now.packet }
     ensures { bytes.new ≡ rewritten link change.now bytes.old }

@@ -19,7 +19,7 @@ const LEAST_TCP: usize = 20;
 const UDP: usize = 8;
 
 /// What stands behind an IPv4 header, by the protocol's number, the length that the total length leaves for it
-/// and the bytes that were captured of it. None where its header isn't there as it should be.
+/// and the bytes that were captured of it. None if its header isn't there as it should be.
 #[inline]
 #[tactic(auto, unfolding(crate::specs::Transport::transport_of))]
 pub fn transport(protocol: u8, fragment: bool, whole: u16, segment: &[u8]) -> Option<Transport>
@@ -74,7 +74,7 @@ fn tcp(whole: u16, segment: &[u8]) -> Option<TcpHeader>
     })
 }
 
-/// The shift of the window that a TCP header offers by its flags and its options: one with SYN alone does.
+/// The shift of the window that a TCP header offers, by its flags and its options. Only a header with SYN offers one.
 #[inline]
 fn scale_offered(flags: u8, options: &[u8]) -> Option<u8>
     ensures { result ≡ (if flags / 2 % 2 == 1 then scale_of options.now else None) }

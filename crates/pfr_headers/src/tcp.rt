@@ -45,7 +45,7 @@ impl Flags for TcpFlags {
 }
 
 impl TcpFlags {
-    /// Whether just these flags are set of those of a mask, both given by their bits.
+    /// Whether of the flags in `mask` just those in `set` are set. Both are bits of a TCP header's flags.
     #[inline]
     pub fn are(self, set: u8, mask: u8) -> bool
         ensures { result ≡ (bit_and self.0 mask == set) }

@@ -71,8 +71,8 @@ fn transport_with(end: End, port: Port, transport: Transport) -> Transport
 }
 
 impl Packet {
-    /// The packet behind a translation of one of its ends: another address stands there, and another port or identifier of
-    /// an echo where it has one. A packet that embeds no other is so once it is rewritten.
+    /// The packet behind a translation of one of its ends: another address stands there, and another port or identifier
+    /// of an echo if it has one. A packet that embeds no other is seen so once it is rewritten.
     #[inline]
     pub fn translated(&self, end: End, to: Endpoint) -> Packet
         ensures { result ≡ spec.translated end to self.now }

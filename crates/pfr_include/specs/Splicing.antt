@@ -22,7 +22,7 @@ abbrev pub origin_or : Origin → Option Origin → Origin
 origin_or own (Some origin) = origin
 origin_or own None = own
 
--- where a line of a text comes from, by the origins of its lines; a line that has none there is the file's own
+-- where a line of a text comes from, by the origins of the text's lines; a line without an origin is the file's own
 abbrev pub origin_of : List Origin → (file line : ℕ) → Origin
 origin_of lines file line = origin_or (record { file = file; line = line }) (slice_get lines (line - 1))
 
@@ -34,15 +34,15 @@ between from to text = take (to - from) (drop from text)
 abbrev pub is_ended : List ℕ → Bool
 is_ended text = slice_index text (length text - 1) == 10
 
--- one line, which comes from somewhere
+-- one line, which comes from `last`
 abbrev pub nothing : Origin → List Spliced → Made
 nothing last spliced = record { text = []; lines = []; last = last; spliced = spliced }
 
--- the last line ends, and behind it comes one from somewhere
+-- the last line ends, and the line behind it comes from `origin`
 abbrev pub with_line : Made → Origin → Made
 with_line made origin = record made { lines = made.lines ++ made.last ∷ []; last = origin }
 
--- the lines that end in bytes which stand, in a text with these origins, on a line and those behind it
+-- the lines that end in these bytes, which stand in a text with these origins, from `line` on
 abbrev pub with_lines : Made → List Origin → (file line : ℕ) → List ℕ → Made
 with_lines made lines file line [] = made
 with_lines made lines file line (b ∷ bytes) =
@@ -53,7 +53,7 @@ with_lines made lines file line (b ∷ bytes) =
 abbrev pub with_kept : Made → List Origin → (file line : ℕ) → List ℕ → Made
 with_kept made lines file line bytes = with_lines (record made { text = made.text ++ bytes }) lines file line bytes
 
--- the end of a line more, behind which comes one from somewhere
+-- the end of a line more; the line behind it comes from `origin`
 abbrev pub with_newline : Made → Origin → Made
 with_newline made origin = with_line (record made { text = made.text ++ 10 ∷ [] }) origin
 
@@ -70,14 +70,14 @@ with_text made file text = with_end (with_kept (record made { last = first_of fi
 abbrev pub with_last : Made → Origin → Made
 with_last made origin = record made { last = origin }
 
--- the text of a file more, if it has any, behind which comes a line from somewhere
+-- the text of a file more, if it has any; the line behind it comes from `origin`
 abbrev pub with_file : Made → Found → Origin → Made
 with_file made found origin = with_last (if length found.text == 0 then made else with_text made found.number found.text) origin
 
 abbrev pub with_words : Made → List ℕ → Made
 with_words made words = record made { text = made.text ++ words }
 
--- the text of a file more as rules in braces, the braces on lines that come from somewhere
+-- the text of a file more as rules in braces; the lines of the braces come from `origin`
 abbrev pub with_rules : Made → Found → Origin → Made
 with_rules made found origin =
     with_words (with_file (with_newline (with_words made (codes " {")) origin) found origin) (codes "}")
@@ -91,7 +91,7 @@ with_put_of made statement origin column put.Nothing = made
 with_put_of made statement origin column (put.File found) = with_file (with_note made statement column found.number) found origin
 with_put_of made statement origin column (put.Rules found) = with_rules (with_note made statement column found.number) found origin
 
--- what a splice puts more, which was found in a text with these origins
+-- what a splice puts more; the splice was found in a text with these origins
 abbrev pub with_put : Made → List Origin → Splice → Made
 with_put made lines splice =
     with_put_of made (origin_of lines 0 splice.statement.line) (origin_of lines 0 splice.start.line) splice.statement.column splice.put

@@ -59,7 +59,7 @@ end_from depth end (mark ∷ marks) =
     if is (codes "\n") mark then place_outside depth end
     else end_from (depth_behind depth mark) mark.end marks
 
--- where the last word of a line ends, of which one ends at a place and the others follow; none if a brace is open there
+-- where the last word of a line ends, if a word ends at `place` and `marks` follow it; none if a brace is open there
 unfoldable pub end_of_line : Place → List Mark → Option Place
 end_of_line place marks = end_from 0 place marks
 

@@ -1,7 +1,7 @@
 //! Laws of the definitions, each the contract of a function that does nothing.
 ghost use Rattle.pfr_include.specs.Laws.{EachLineHasAnOrigin, NothingToSpliceChangesNothing};
 
-/// A text of which nothing is spliced is answered byte for byte, and each of its lines comes from itself.
+/// A text in which nothing is spliced stays the same byte for byte, and each of its lines comes from itself.
 pub fn nothing_to_splice_changes_nothing()
     ensures { NothingToSpliceChangesNothing }
 {}

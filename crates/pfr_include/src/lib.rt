@@ -1,7 +1,8 @@
-//! A ruleset text with the texts of files in the place of the statements that name them.
+//! A ruleset text with the texts of files in the place of the statements that name them. A helper of `pfr_prepare`.
 //!
-//! [`with_files`] puts a file's text where `include "NAME"` stood, and where an anchor lacks the rules that `load anchor NAME from "NAME"`
-//! loads into it, both as pf.conf(5) has them. It says for each line of what comes out which file and line it comes from.
+//! [`with_files`] puts a file's text in the place of `include "NAME"`, and as rules behind each anchor without rules
+//! that `load anchor NAME from "NAME"` names, both as pf.conf(5) has them. For each line of the new text it says which
+//! file and line it comes from.
 #![tactic(auto)]
 
 pub mod file;

@@ -22,9 +22,9 @@ pub(crate) enum Put<'f> {
 /// A part of a text that goes, and what is put there.
 #[derive(Drop)]
 pub(crate) struct Splice<'f> {
-    /// Where the statement begins for which it is.
+    /// Where its statement begins.
     pub statement: Place,
-    /// Where the part begins that goes.
+    /// Where the part that goes begins.
     pub start: Place,
     /// Where it ends.
     pub end: Place,
@@ -75,7 +75,7 @@ fn add<'f>(found: &mut Items<Splice<'f>>, splice: Option<Splice<'f>>) -> Result<
     }
 }
 
-/// A file is put in the place of a statement `include`.
+/// The splice that puts a file in the place of a statement `include`.
 fn include_splice<'f>(statement: &Statement<'_, 'f>) -> Option<Splice<'f>>
     ensures { result ≡ spec.include_splice statement.now }
 {
@@ -106,7 +106,7 @@ struct Loading<'a, 'f> {
     found: Found<'f>,
 }
 
-/// The file that a statement loads, and the anchors into which it does.
+/// The file that a statement loads, with the name of the anchors into which it is loaded.
 fn loading_in<'a, 'f>(statement: &Statement<'a, 'f>) -> Option<Loading<'a, 'f>>
     ensures { result ≡ spec.loading_in statement.now }
 {
@@ -135,7 +135,7 @@ fn loadings<'a, 'f>(
     Ok(loadings)
 }
 
-/// The file that is loaded into the anchors of a name, by the first statement that loads one.
+/// The file that the first statement for anchors of this name loads into them.
 fn loaded<'f>(name: &[u8], loadings: &[Loading<'_, 'f>]) -> Option<Found<'f>>
     ensures { result ≡ spec.loaded name.now loadings.now }
 {
@@ -147,7 +147,7 @@ fn loaded<'f>(name: &[u8], loadings: &[Loading<'_, 'f>]) -> Option<Found<'f>>
     None
 }
 
-/// An anchor has the file's rules that is loaded into it.
+/// The splice that gives an anchor the rules of the file that is loaded into it.
 #[tactic(auto, unfolding(crate::specs::Splices::rules_splice))]
 fn rules_splice<'f>(anchor: &Anchor<'_>, loadings: &[Loading<'_, 'f>]) -> Option<Splice<'f>>
     ensures { result ≡ spec.rules_splice anchor.now loadings.now }
@@ -156,7 +156,7 @@ fn rules_splice<'f>(anchor: &Anchor<'_>, loadings: &[Loading<'_, 'f>]) -> Option
     Some(opened(anchor, found))
 }
 
-/// A statement `load anchor` goes, and an anchor has the rules that are loaded into it.
+/// The splice that takes a statement `load anchor` out, or gives an anchor the rules that are loaded into it.
 fn load_splice<'f>(
     loadings: &[Loading<'_, 'f>],
     statement: &Statement<'_, 'f>,
@@ -185,8 +185,8 @@ fn loads<'f>(
     Ok(found)
 }
 
-/// What is spliced for the statements of a text: first the files that are included, and once there are none, those that are loaded,
-/// since a file that is included may have the anchor.
+/// What is spliced for the statements of a text: the files that are included, or if there are none, the files that are
+/// loaded. They come later, since a file that is included may have the anchor.
 #[tactic(auto, unfolding(crate::specs::Splices::splices_for))]
 pub(crate) fn splices_for<'f>(
     alloc: Global,

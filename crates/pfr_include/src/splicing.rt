@@ -42,7 +42,7 @@ pub struct Included {
 #[derive(Drop)]
 pub(crate) struct Made {
     text: Items<u8>,
-    /// Where the lines come from that have ended.
+    /// Where the ended lines come from.
     lines: Items<Origin>,
     /// Where the last one comes from.
     last: Origin,
@@ -56,7 +56,7 @@ fn next_line(line: usize) -> usize
     line.saturating_add(1)
 }
 
-/// Where a line of a text comes from, by the origins of its lines; a line that has none there is the file's own.
+/// Where a line of a text comes from, by the origins of the text's lines; a line without an origin is the file's own.
 pub(crate) fn origin_of(lines: &[Origin], file: usize, line: usize) -> Origin
     ensures { result ≡ spec.origin_of lines.now file line }
 {
@@ -86,7 +86,7 @@ fn is_ended(text: &[u8]) -> bool
 }
 
 impl Made {
-    /// Nothing yet: one line, which comes from somewhere.
+    /// The empty text: one line, which comes from `last`.
     fn new(alloc: Global, last: Origin, spliced: Items<Spliced>) -> Made
         ensures { result ≡ spec.nothing last spliced }
     {
@@ -98,7 +98,7 @@ impl Made {
         }
     }
 
-    /// Ends the last line; behind it comes a line from somewhere.
+    /// Ends the last line; the line behind it comes from `origin`.
     fn end_line(&mut self, origin: Origin) -> Result<(), AllocError>
         ensures { OnOk result (self.new ≡ spec.with_line self.old origin) }
     {
@@ -107,7 +107,7 @@ impl Made {
         Ok(())
     }
 
-    /// Puts bytes at the end that stand in a text with these origins, on a line and those behind it.
+    /// Puts bytes at the end. They stand in a text with these origins, from `line` on.
     fn keep(
         &mut self,
         lines: &[Origin],
@@ -128,7 +128,7 @@ impl Made {
         Ok(())
     }
 
-    /// Puts the end of a line at the end; behind it comes a line from somewhere.
+    /// Puts the end of a line at the end; the line behind it comes from `origin`.
     fn put_line(&mut self, origin: Origin) -> Result<(), AllocError>
         ensures { OnOk result (self.new ≡ spec.with_newline self.old origin) }
     {
@@ -148,7 +148,7 @@ impl Made {
         Ok(())
     }
 
-    /// Puts the text of a file at the end, if it has any; what is behind it comes from somewhere.
+    /// Puts the text of a file at the end, if it has any; the line behind it comes from `origin`.
     fn put_file(&mut self, found: &Found<'_>, origin: Origin) -> Result<(), AllocError>
         ensures { OnOk result (self.new ≡ spec.with_file self.old found.now origin) }
     {
@@ -160,7 +160,7 @@ impl Made {
         Ok(())
     }
 
-    /// Puts the text of a file at the end as rules in braces, the braces on lines that come from somewhere.
+    /// Puts the text of a file at the end as rules in braces; the lines of the braces come from `origin`.
     fn put_rules(&mut self, found: &Found<'_>, origin: Origin) -> Result<(), AllocError>
         ensures { OnOk result (self.new ≡ spec.with_rules self.old found.now origin) }
     {
@@ -181,7 +181,7 @@ impl Made {
         })
     }
 
-    /// Puts what a splice puts at the end, which was found in a text with these origins.
+    /// Puts at the end what a splice puts. The splice was found in a text with these origins.
     fn put(&mut self, lines: &[Origin], splice: &Splice<'_>) -> Result<(), AllocError>
         ensures { OnOk result (self.new ≡ spec.with_put self.old lines.now splice.now) }
     {

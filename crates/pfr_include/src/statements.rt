@@ -40,7 +40,8 @@ pub(crate) enum Statement<'a, 'f> {
     Anchor(Anchor<'a>),
 }
 
-/// A statement that begins at a place and ends with the name of a file, by what stands behind its other words: one word, which names a file.
+/// A statement that begins at `start` and ends with the name of a file, by what stands behind its other words: one
+/// word, which names a file.
 #[tactic(auto, unfolding(crate::specs::Statements::naming_at))]
 fn naming_at<'f>(files: &[File<'f>], start: Place, marks: &[Mark<'_>]) -> Option<Naming<'f>>
     ensures { result ≡ spec.naming_at files.now start marks.now }
@@ -122,7 +123,7 @@ fn place_outside(depth: usize, place: Place) -> Option<Place>
     if depth == 0 { Some(place) } else { None }
 }
 
-/// Where the last word of a line ends, of which one ends at a place and the others follow; none if a brace is open there.
+/// Where the last word of a line ends, if a word ends at `place` and `marks` follow it; none if a brace is open there.
 #[tactic(auto, unfolding(crate::specs::Statements::end_of_line))]
 fn end_of_line(place: Place, marks: &[Mark<'_>]) -> Option<Place>
     ensures { result ≡ spec.end_of_line place marks.now }

@@ -10,10 +10,10 @@ use pfr_items::Items;
 use pfr_marks::mark::marks;
 use std::alloc::{AllocError, Global};
 
-/// How often a text is gone over at most.
+/// How many times a text is spliced at most.
 const TURNS: usize = 16;
 
-/// How many bytes a text may have that is gone over.
+/// How many bytes a text has at most that is spliced.
 const MOST_BYTES: usize = 1048576;
 
 /// What is spliced of a text.
@@ -48,12 +48,13 @@ fn turn(alloc: Global, files: &[File<'_>], now: &Included) -> Result<Option<Incl
 
 /// A ruleset text with the texts of files in the place of the statements that name them.
 ///
-/// A statement outside of braces with just the words `include NAME` becomes the text of the first file of that name, and the rest of its
-/// line follows on a line of its own. Once there is none, `load anchor NAME from NAME` goes, and each `anchor` of that name on whose line
-/// no brace is open has the file's text in braces behind it. All other bytes stay as they are.
+/// A statement outside of braces with just the words `include NAME` becomes the text of the first file of that name,
+/// and the rest of its line follows on a line of its own. If there is no such statement, each
+/// `load anchor NAME from NAME` goes, and each `anchor` of that name on whose line no brace is open gets the file's
+/// text in braces behind it. All other bytes stay.
 ///
-/// What came out is gone over again, as long as there is something to splice and the text has at most 1048576 bytes, and at most 16
-/// times. So a file that includes itself leaves a statement `include` in the end. Fails only for want of memory.
+/// This is repeated as long as there is something to splice and the text has at most 1048576 bytes, 16 times in all at
+/// most. So a file that includes itself leaves a statement `include` in the end. Fails only for want of memory.
 #[tactic(auto, unfolding(crate::specs::Turns::with_files))]
 pub fn with_files(alloc: Global, text: &[u8], files: &[File<'_>]) -> Result<Included, AllocError>
     ensures { IfOk result (λ made. made ≡ spec.with_files text.now files.now) }

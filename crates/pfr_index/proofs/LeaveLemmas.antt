@@ -18,7 +18,7 @@ not_true : (b : Bool) → (b ≡ true → b ≡ false) → b ≡ false
 not_true true otherwise = otherwise refl
 not_true false otherwise = refl
 
--- where the search ends at a slot that isn't held, no slot holds the entry
+-- if the search ends at a slot that isn't held, no slot holds the entry
 pub none_holds : (slots : List Slot) (entry : Entry) (i : ℕ) → AreReached slots → IsFirst (ends entry) slots (home_of entry.hash (length slots)) i
     → (any : Slot) → is_held (get_or slots i any) ≡ false → All (λ slot. holds entry slot ≡ false) slots
 none_holds slots entry i reached first any unheld k other below =

@@ -88,7 +88,7 @@ under_reached slots hash k other reached within under =
     same
     (reached k other within (under_held hash (get_or slots k other) under))
 
--- where a search ends at a free slot, no slot under the hash stands behind that one
+-- if a search ends at a free slot, no slot under the hash stands behind that one
 pub end_before : (P : Slot → Type 0) (slots : List Slot) (hash : Hash) (i : ℕ) → AreReached slots → AllBefore P slots (home_of hash (length slots)) i → i < length slots
     → ((other : Slot) → is_free (get_or slots i other) ≡ true)
     → (k : ℕ) (other : Slot) → k < length slots → is_under hash (get_or slots k other) ≡ true → P (get_or slots k other)

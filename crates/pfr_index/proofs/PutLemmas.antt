@@ -68,7 +68,7 @@ put_is slots at slot was_free held reached first any was = record {
   reached = all_reached slots at slot first.within (held_is_busy slot held) (λ _. reached_first slots (home_of slot.hash (length slots)) at first.before) reached;
 }
 
--- where a slot isn't held, not all are
+-- if a slot isn't held, not all are
 pub none_full : (slots : List Slot) → All (λ slot. is_unheld slot ≡ false) slots → length slots ≤ count_by is_held slots
 none_full [] all = omega arith
 none_full (slot ∷ slots) all =

@@ -1,4 +1,4 @@
--- What going through the places under a hash comes to.
+-- What going through the places under a hash gives.
 use Rattle.std.specs.Prelude.{◌≡◌, ℕ, ◌<◌, Bool, true, false, List}
 use Rattle.std.specs.List.{All, Contains, FoldsTo}
 use Rattle.pfr_places.specs.declared.place.Place.{Place}
@@ -15,7 +15,7 @@ pub record FoldsUnder {B : Type 0} (Step : B → Place → B → Type 0) (start 
   pub stand : (place : Place) → Contains places place → 0 < times (record { hash = hash; place = place })
   pub all : (place : Place) → 0 < times (record { hash = hash; place = place }) → Contains places place
 
--- what a search is told of a place, whatever the answer: it is one of those gone through
+-- what a search is told of a place, whatever the answer: the place is one of those gone through
 abbrev pub Among : List Place → Place → Bool → Type 0
 Among places place answer = Contains places place
 

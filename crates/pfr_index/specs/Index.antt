@@ -1,4 +1,4 @@
--- An index: how often each place stands under each hash, and for how many more there is room.
+-- An index: how often each place stands under each hash, and how many more there is room for.
 use Rattle.std.specs.Prelude.{◌≡◌, refl, ℕ, ◌+◌, ◌-◌, ◌==◌, ◌&&◌, Bool, if◌then◌else◌, List}
 use Rattle.std.specs.List.{sum_by}
 use Rattle.std.specs.Coded.{Coded, code_by, coded×, coded_ℕ, coded_list}
@@ -22,7 +22,7 @@ once entry other = if is_same entry other then 1 else 0
 abbrev pub times_in : List Entry → Entry → ℕ
 times_in entries other = sum_by (λ entry. once entry other) entries
 
--- what an index is. The entries in some order are there for the value's code alone, since a function has none
+-- what an index is; the entries in some order are there for the value's code alone, since a function has none
 pub record Indexed : Type 0 where
   pub entries : List Entry
   pub times : Entry → ℕ
@@ -47,14 +47,14 @@ entry_code = code_by (ℕ × ℕ) (coded× coded_ℕ coded_ℕ) (λ entry. (entr
 abbrev pub indexed_code : Coded Indexed
 indexed_code = code_by (List Entry × ℕ) (coded× (coded_list entry_code) coded_ℕ) (λ index. (index.entries, index.room)) index_of index_of_parts
 
--- how often an entry stands there when one is put in
+-- how often an entry stands there after one is put in
 abbrev pub with_entry : Entry → (Entry → ℕ) → Entry → ℕ
 with_entry entry times other = once entry other + times other
 
--- when one is taken out: one that isn't there leaves all as it was
+-- how often after one is taken out; an entry that isn't there leaves all as it was
 abbrev pub without_entry : Entry → (Entry → ℕ) → Entry → ℕ
 without_entry entry times other = times other - once entry other
 
--- how many places an entry can name
+-- the number of places that an entry can name
 abbrev pub places : ℕ
 places = 4294967294

@@ -1,4 +1,4 @@
--- What a search of slots comes to, by the answers of a test.
+-- What a search of slots finds, by the answers of a test.
 use Rattle.std.specs.Prelude.{◌≡◌, ℕ, ◌<◌, Bool, true, false, List, length, slice_index_or}
 use Rattle.std.specs.List.{All, AllWithin}
 use Rattle.pfr_places.specs.declared.place.Place.{Place}
@@ -9,11 +9,11 @@ use Rattle.pfr_index.specs.declared.search.Outcome.TheVariants.{At, Nowhere, Not
 use Rattle.pfr_index.specs.Slots.{holds, is_free, is_under}
 
 module _ (Answers : Place → Bool → Type 0) (hash : Hash) where
-  -- where a slot is under the hash, the test says that its place isn't the one
+  -- if a slot is under the hash, the test answers false for its place
   abbrev pub IsOther : Slot → Type 0
   IsOther slot = is_under hash slot ≡ true → Answers slot.place false
 
-  -- the test says of a place under the hash that it is the one
+  -- the test answers true for a place under the hash
   pub record IsFound (slots : List Slot) (place : Place) : Type 0 where
     pub index : ℕ
     pub within : index < length slots
@@ -32,6 +32,6 @@ module _ (Answers : Place → Bool → Type 0) (hash : Hash) where
   ComesTo slots Nowhere = IsEnd slots
   ComesTo slots NotYet = All IsOther slots
 
-  -- the test says of no place under the hash that it is the one
+  -- the test answers false for each place under the hash
   abbrev pub IsNone : List Slot → Type 0
   IsNone slots = All IsOther slots

@@ -39,7 +39,7 @@ indexed_of slots = index_of (entries_of slots, room_of slots)
 
 -- ---- the order of a search
 
--- where a search for a hash begins among as many slots
+-- the slot where a search for a hash begins, among `count` slots
 unfoldable pub home_of : Hash → ℕ → ℕ
 home_of hash count = min (hash.0 * count % 2 ^ 64 / 2 ^ 32) count
 
@@ -51,7 +51,7 @@ after_all home None others = others
 unfoldable pub first_from : (Slot → Bool) → List Slot → ℕ → Option ℕ
 first_from test slots home = after_all home (position test (drop home slots)) (position test (take home slots))
 
--- what holds of each slot that a search from a home on goes through before it comes to one
+-- what holds of each slot that a search from a home on goes through before it comes to a slot
 pub record AllBefore (P : Slot → Type 0) (slots : List Slot) (home index : ℕ) : Type 0 where
   pub ahead : home ≤ index → AllWithin P slots home index
   pub to_end : index < home → AllWithin P slots home (length slots)
@@ -86,14 +86,14 @@ pub record IsLeft (old : List Slot) (entry : Entry) (new : List Slot) : Type 0 w
   pub unheld : is_held left ≡ false
   pub is : new ≡ set old index left
 
--- whether one held it, and the slots then
+-- whether a slot held the entry, and the slots then
 abbrev pub Leaves : List Slot → Entry → Bool → List Slot → Type 0
 Leaves old entry true new = IsLeft old entry new
 Leaves old entry false new = (new ≡ old) × All (λ slot. holds entry slot ≡ false) old
 
 -- ---- the invariant
 
--- all that is held is found, and how many are held and how many are free is kept beside them
+-- a search finds all that is held; the numbers of held and of free slots are kept beside the slots
 pub record IsIndex (slots : List Slot) (held free : ℕ) : Type 0 where
   pub reached : AreReached slots
   pub held_is : held ≡ count_by is_held slots

@@ -24,7 +24,8 @@ fn fold<B, F: Fn(B, Place) -> B>(slots: &[Slot], hash: Hash, start: B, step: &F)
     (last, false)
 }
 
-/// Goes through the places under a hash, up to the first free slot from its home on: to the end, and then from the start to the home.
+/// Goes through the places under a hash, from its home on to the end, and then from the start to the home. A free slot
+/// ends it.
 pub(crate) fn fold_under<B, F: Fn(B, Place) -> B>(
     slots: &[Slot],
     hash: Hash,

@@ -20,7 +20,7 @@ const FEWEST: usize = 8;
 /// The most entries for whose slots there could be memory.
 const MOST: usize = 1 << 56;
 
-/// How many slots are wanted for some entries and one more, so that at most half of them are held.
+/// The number of slots that are wanted for `held` entries and one more, so that at most half of the slots are held.
 fn wanted(held: usize) -> Result<usize, AllocError>
     ensures { IfOk result (λ count. held < count) }
 {
@@ -30,7 +30,7 @@ fn wanted(held: usize) -> Result<usize, AllocError>
     Ok(((held + 1) * 2).next_power_of_two().max(FEWEST))
 }
 
-/// What stands where a search begins: mostly the place that it would find. Nothing rests on it.
+/// What stands where a search begins: mostly the place that the search would find. It is a hint alone.
 #[derive(Clone, Copy)]
 pub struct Guess {
     slot: Slot,
@@ -48,14 +48,15 @@ impl Guess {
     }
 }
 
-/// The places of values by hashes of their keys. Contracts see how often each place stands under each hash, and for how many more there is room.
+/// The places of values by hashes of their keys. Contracts see how often each place stands under each hash, and how
+/// many more there is room for.
 #[derive(Drop)]
 pub struct Index {
     alloc: Global,
     slots: Vec<Slot>,
     /// How many slots are held.
     held: usize,
-    /// In how many slots nothing stood so far.
+    /// The number of slots in which nothing stood so far.
     free: usize,
 }
 
@@ -73,7 +74,7 @@ impl Model for Index {
 }
 
 impl Index {
-    /// Takes memory only once room is made.
+    /// An empty index. It takes memory only once room is made.
     pub fn new(alloc: Global) -> Index
         ensures { (entry : Entry) → result.times entry ≡ 0 }
     {
@@ -111,7 +112,7 @@ impl Index {
         self.held += 1;
     }
 
-    /// Takes a place under a hash out, once; where it isn't there nothing changes. It takes no memory.
+    /// Takes a place under a hash out, once; if it isn't there, nothing changes. It takes no memory.
     pub fn remove(&mut self, hash: Hash, place: Place)
         ensures times { (entry : Entry) → self.new.times entry ≡ spec.without_entry (record { hash = hash; place = place }) self.old.times entry }
         ensures room { self.old.room ≤ self.new.room }
@@ -120,8 +121,8 @@ impl Index {
         self.held -= usize::from(was_there);
     }
 
-    /// What stands where a search for a hash begins. A row of such questions is answered fast: nothing is done by what stands
-    /// there, so that none waits for the memory at which the one before looks.
+    /// What stands where a search for a hash begins. Several such questions in a row are answered fast: none of them
+    /// uses what it reads, so none waits for the memory that the one before reads.
     #[inline]
     pub fn guess(&self, hash: Hash) -> Option<Guess> {
         match self.slots.get(home(hash, self.slots.len())) {
@@ -130,7 +131,7 @@ impl Index {
         }
     }
 
-    /// A place under a hash of which the test says that it is the one; none where it says so of no place under that hash.
+    /// A place under a hash for which the test answers true, or None if there is no such place.
     #[inline(always)]
     pub fn find<F: Fn(Place) -> bool>(&self, hash: Hash, is_it: F) -> Option<Place>
         requires { F.IsAlwaysCallable is_it }
@@ -140,8 +141,8 @@ impl Index {
         search::find(self.slots.as_slice(), hash, &is_it)
     }
 
-    /// Goes through the places under a hash, each at least once and no other one, in no order. The step gets what the one before
-    /// it answered.
+    /// Goes through the places under a hash, in no order: each at least once, and no other place. The step gets what
+    /// the step before it answered.
     pub fn fold_under<B, F: Fn(B, Place) -> B>(&self, hash: Hash, start: B, step: F) -> B
         requires { F.IsAlwaysCallable step }
         ensures { FoldsUnder (λ before place after. F.post step before place after) start hash self.now.times result }
@@ -149,7 +150,7 @@ impl Index {
         folding::fold_under(self.slots.as_slice(), hash, start, &step)
     }
 
-    /// The index of the entries of some slots, among as many slots as asked for.
+    /// The index of the entries of some slots, with `count` slots.
     fn rebuilt(alloc: Global, slots: &[Slot], count: usize) -> Result<Index, AllocError>
         requires { count_by is_held slots.now < count }
         ensures times { IfOk result (λ index. (entry : Entry) → index.times entry ≡ spec.times_in (entries_of slots.now) entry) }

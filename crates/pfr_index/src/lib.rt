@@ -1,4 +1,4 @@
-//! The places of values by hashes of their keys.
+//! A helper of `pfr_states`: the places of values by hashes of their keys.
 #![tactic(auto)]
 
 mod folding;

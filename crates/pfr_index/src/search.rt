@@ -7,17 +7,17 @@ use crate::hash::Hash;
 use crate::slot::{Slot, home};
 use pfr_places::Place;
 
-/// What a search of some slots comes to.
+/// What a search of some slots finds.
 pub(crate) enum Outcome {
-    /// A place of which the test said that it is the one.
+    /// A place for which the test answered true.
     At(Place),
-    /// A free slot, behind which the place doesn't stand.
+    /// A free slot; the place doesn't stand behind it.
     Nowhere,
     /// The end of the slots.
     NotYet,
 }
 
-/// Searches slots for a place under a hash of which a test says that it is the one, up to the first free one.
+/// Searches slots, up to the first free one, for a place under a hash for which a test answers true.
 // A call would keep the test, and what it looks at, in memory.
 #[inline(always)]
 fn search<F: Fn(Place) -> bool>(slots: &[Slot], hash: Hash, is_it: &F) -> Outcome
@@ -35,7 +35,7 @@ fn search<F: Fn(Place) -> bool>(slots: &[Slot], hash: Hash, is_it: &F) -> Outcom
     Outcome::NotYet
 }
 
-/// A place under a hash of which a test says that it is the one; none where it says so of no place under that hash.
+/// A place under a hash for which a test answers true, or None if there is no such place.
 #[inline(always)]
 pub(crate) fn find<F: Fn(Place) -> bool>(slots: &[Slot], hash: Hash, is_it: &F) -> Option<Place>
     requires callable { F.IsAlwaysCallable is_it.now }

@@ -6,10 +6,10 @@ ghost use Rattle.pfr_index.specs.Slots as spec;
 use crate::hash::Hash;
 use pfr_places::Place;
 
-/// Stands for a place where nothing stood so far: there a search ends.
+/// Marks a slot in which nothing stood so far: a search ends there.
 const FREE: u32 = u32::MAX;
 
-/// Stands for a place where something stood and left: a search goes on.
+/// Marks a slot in which something stood and left: a search goes on.
 const LEFT: u32 = u32::MAX - 1;
 
 /// A place under a hash, or none.
@@ -66,7 +66,7 @@ impl Slot {
         self.hash.0 == hash.0 && self.is_held()
     }
 
-    /// Whether an entry stands in it, which is given as the slot that holds it.
+    /// Whether a given entry stands in it; the entry is given as the slot that holds it.
     pub(crate) fn holds(&self, entry: &Slot) -> bool
         ensures { result ≡ spec.holds (spec.entry_of entry.now) self.now }
     {
@@ -74,7 +74,8 @@ impl Slot {
     }
 }
 
-/// Where a search for a hash begins among a number of slots. It rises with the hash, so that slots which are gone through in order are put elsewhere nearly in order.
+/// The slot where a search for a hash begins, among `count` slots. It rises with the hash: if slots are gone through in
+/// order, they are put elsewhere nearly in order.
 #[inline]
 #[tactic(auto, unfolding(crate::specs::Slots::home_of))]
 pub(crate) fn home(hash: Hash, count: usize) -> usize
@@ -129,7 +130,8 @@ fn first_end(slots: &[Slot], home: usize, entry: &Slot) -> Option<usize>
     }
 }
 
-/// Puts a slot in the place of the first one that isn't held, in the order from its home on. Says whether that one was free.
+/// Puts a slot in the place of the first one that isn't held, in the order from its home on. Says whether that slot was
+/// free.
 pub(crate) fn put(slots: &mut [Slot], slot: Slot) -> bool
     requires held { spec.is_held slot ≡ true }
     requires room { count_by spec.is_held slots.old < length slots.old }

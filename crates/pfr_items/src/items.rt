@@ -4,8 +4,8 @@ ghost use Rattle.std.specs.Prelude.{◌≡◌, [], ◌∷◌, ◌++◌, length, 
 use std::alloc::{AllocError, Global};
 use std::marker::Model;
 
-/// A list that owns its elements, which contracts see as nothing but those elements: two lists are equal where
-/// their elements are, whatever room they have left.
+/// A list that owns its elements. Contracts see nothing of it but the elements: two lists are equal if their elements
+/// are, whatever room they have left.
 #[derive(Debug, Drop)]
 pub struct Items<T> {
     elements: Vec<T>,
@@ -69,7 +69,7 @@ impl<T: Copy> Items<T> {
 }
 
 impl<T: Drop> Items<T> {
-    /// Puts an element at the end. Where memory is refused the list is as before.
+    /// Puts an element at the end. If memory is refused, the list is as before.
     pub fn push(&mut self, element: T) -> Result<(), AllocError>
         ensures pushed { OnOk result (self.new ≡ self.old ++ element ∷ []) }
         ensures kept { OnErr result (self.new ≡ self.old) }

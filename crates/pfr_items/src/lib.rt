@@ -1,4 +1,4 @@
-//! Lists as contracts see them.
+//! Lists that own their elements, of which contracts see nothing but the elements.
 #![tactic(auto)]
 
 pub mod items;

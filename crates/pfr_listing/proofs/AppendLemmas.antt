@@ -16,7 +16,7 @@ three_on (Ok value) old before middle new first second third one two three =
     both old before new first (second ++ third) one (both before middle new second third two three)
 three_on (Err fault) old before middle new first second third one two three = tt
 
--- the same where the last piece is appended by a call of std's
+-- the same if the last piece is appended by a call of std's
 pub three_if : {T E : Type 0} (result : Result T E) (old before middle new first second third : List ℕ) → before ≡ old ++ first
     → middle ≡ before ++ second → new ≡ (if is_ok result then middle ++ third else middle) → OnOk result (new ≡ old ++ (first ++ (second ++ third)))
 three_if (Ok value) old before middle new first second third one two three =

@@ -47,7 +47,7 @@ abbrev pub rule_or_null : Option RuleNumber → List ℕ
 rule_or_null None = codes "null"
 rule_or_null (Some number) = decimal number.0
 
--- null if no interface is said to which the state is bound
+-- null if no interface is named to which the state is bound
 abbrev pub bound_value : Bound → List ℕ
 bound_value Unsaid = codes "null"
 bound_value All = codes "null"

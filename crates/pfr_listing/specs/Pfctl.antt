@@ -77,13 +77,14 @@ both_sides here there = host here ++ (if are_same here there then [] else codes 
 abbrev pub ends : (here there : Key) → (arrow : List ℕ) → List ℕ
 ends here there arrow = both_sides here.inside there.inside ++ (arrow ++ both_sides here.outside there.outside)
 
--- An echo of ICMP has one identifier: that of the end towards which its first packet went is shown as it is on this side.
+-- An ICMP echo has one identifier: the end towards which its first packet went is shown with the identifier of this
+-- side.
 abbrev pub there_for : Direction → (here there : Key) → Key
 there_for Out here there = if there.protocol.0 == 1 then record there { outside = record there.outside { port = here.outside.port } } else there
 there_for In here there = if there.protocol.0 == 1 then record there { inside = record there.inside { port = here.inside.port } } else there
 
--- The end inside stands first. A state that a packet made on its way out is shown as it is on the wire, with `->`, and the maker's end
--- first; another one as it is behind the firewall, with `<-`.
+-- The end inside stands first. A state that a packet made on its way out is shown as it is on the wire, with `->`, and
+-- the maker's end first; another one as it is behind the firewall, with `<-`.
 abbrev pub ends_by : Direction → State → List ℕ
 ends_by Out state = ends state.wire (there_for Out state.wire state.stack) (codes " -> ")
 ends_by In state = ends state.stack (there_for In state.stack state.wire) (codes " <- ")
@@ -92,7 +93,7 @@ abbrev pub names_by : Direction → Peers → List ℕ
 names_by Out peers = (end_names peers).0 ++ (codes ":" ++ (end_names peers).1)
 names_by In peers = (end_names peers).1 ++ (codes ":" ++ (end_names peers).0)
 
--- `all` if no interface is said to which it is bound
+-- `all` if no interface is named to which it is bound
 abbrev pub bound_to : Bound → List ℕ
 bound_to Unsaid = codes "all"
 bound_to All = codes "all"

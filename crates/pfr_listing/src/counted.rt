@@ -53,7 +53,7 @@ fn written(kind: RuleKind, number: u64, counted: &Counted) -> Tail
     line
 }
 
-/// What a line, with its newline, counts for the rule of a kind that has this number, if it is what a run writes of that rule.
+/// What a line, with its newline, counts for rule `number` of a kind, if it is what a run writes of that rule.
 pub fn counted_in(line: &[u8], kind: RuleKind, number: u64) -> Option<Counted>
     ensures { IfSome result (λ counted. line.now ≡ spec.counter_line kind number counted) }
 {

@@ -26,7 +26,7 @@ impl<'a> Lines<'a> {
         Some(whole)
     }
 
-    /// What the next line counts for the rule of a kind that has this number.
+    /// What the next line counts for rule `rule` of a kind.
     fn counted(&mut self, kind: RuleKind, rule: usize) -> Result<Counted, Refused> {
         let refused = Refused::Line(self.number);
         let counted = match self.next() {
@@ -37,7 +37,7 @@ impl<'a> Lines<'a> {
         counted.ok_or(refused)
     }
 
-    /// What the next lines count for so many rules of a kind.
+    /// What the next lines count for `rules` rules of a kind.
     fn all(
         &mut self,
         alloc: Global,
@@ -68,8 +68,8 @@ impl<'a> Lines<'a> {
     }
 }
 
-/// What a run with so many filter rules and so many translation rules counted, by the text of its counters. The first line that such a
-/// run doesn't write there is refused.
+/// What a run with `filter` filter rules and `translations` translation rules counted, by the text of its counters. The
+/// first line that such a run doesn't write there is refused.
 pub fn counters_in(
     alloc: Global,
     text: &[u8],

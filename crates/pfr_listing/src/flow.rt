@@ -9,11 +9,11 @@ use std::alloc::AllocError;
 #[derive(Clone, Copy, PartialEq, Eq, PartialOrd, Ord)]
 pub struct End {
     pub address: Ipv4Address,
-    /// None where the packets of the flow have no ports that can be seen.
+    /// None if the packets of the flow have no ports that can be seen.
     pub port: Option<Port>,
 }
 
-/// What packets are gathered by, as one of them has it.
+/// The flow by which packets are gathered, as one of them has it.
 #[derive(Clone, Copy, PartialEq, Eq, PartialOrd, Ord)]
 pub enum Flow {
     /// No IPv4 packets.
@@ -77,7 +77,7 @@ impl Flow {
         }
     }
 
-    /// The same whichever way its packets go.
+    /// The same flow for both ways that its packets may go.
     pub fn either_way(self) -> Flow {
         match self {
             Flow::Between(protocol, first, second) if second < first => {

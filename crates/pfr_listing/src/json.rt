@@ -61,7 +61,7 @@ pub fn put_string(text: &mut Vec<u8>, bytes: &[u8]) -> Result<(), AllocError>
     text.extend_from_slice(b"\"")
 }
 
-/// Appends a number behind what stands before it.
+/// Appends `lead` and a number.
 fn put_count(text: &mut Vec<u8>, lead: &[u8], number: u64) -> Result<(), AllocError>
     ensures { OnOk result (text.new.items ≡ text.old.items ++ (lead.now ++ decimal number)) }
 {
@@ -69,7 +69,7 @@ fn put_count(text: &mut Vec<u8>, lead: &[u8], number: u64) -> Result<(), AllocEr
     append_number(text, number)
 }
 
-/// Appends a shift, or null, behind what stands before it.
+/// Appends `lead` and a shift, or null.
 fn put_scale(text: &mut Vec<u8>, lead: &[u8], scale: Option<u8>) -> Result<(), AllocError>
     ensures { OnOk result (text.new.items ≡ text.old.items ++ (lead.now ++ spec.number_or_null scale)) }
 {
@@ -80,7 +80,7 @@ fn put_scale(text: &mut Vec<u8>, lead: &[u8], scale: Option<u8>) -> Result<(), A
     }
 }
 
-/// Appends a rule's number, or null, behind what stands before it.
+/// Appends `lead` and a rule's number, or null.
 fn put_rule(text: &mut Vec<u8>, lead: &[u8], rule: Option<RuleNumber>) -> Result<(), AllocError>
     ensures { OnOk result (text.new.items ≡ text.old.items ++ (lead.now ++ spec.rule_or_null rule)) }
 {
@@ -111,7 +111,7 @@ fn put_direction(text: &mut Vec<u8>, direction: Direction) -> Result<(), AllocEr
     }
 }
 
-/// Appends an address behind what stands before it.
+/// Appends `lead` and an address.
 fn put_host(text: &mut Vec<u8>, lead: &[u8], address: Ipv4Address) -> Result<(), AllocError>
     ensures { OnOk result (text.new.items ≡ text.old.items ++ (lead.now ++ address_text address)) }
 {
@@ -119,7 +119,7 @@ fn put_host(text: &mut Vec<u8>, lead: &[u8], address: Ipv4Address) -> Result<(),
     append_address(text, address)
 }
 
-/// Appends a port behind what stands before it.
+/// Appends a port behind the address of its end.
 fn put_port(text: &mut Vec<u8>, port: Port) -> Result<(), AllocError>
     ensures { OnOk result (text.new.items ≡ text.old.items ++ spec.port_part port) }
 {
@@ -195,7 +195,7 @@ fn put_datagram(text: &mut Vec<u8>, end: DatagramPeer) -> Result<(), AllocError>
     text.extend_from_slice(b"\"}")
 }
 
-/// Appends what was seen of an end of a TCP connection behind what stands before it.
+/// Appends `lead` and what was seen of an end of a TCP connection.
 fn put_tcp_end(text: &mut Vec<u8>, lead: &[u8], end: &TcpPeer) -> Result<(), AllocError>
     ensures { OnOk result (text.new.items ≡ text.old.items ++ (lead.now ++ spec.tcp_value end.now)) }
 {
@@ -203,7 +203,7 @@ fn put_tcp_end(text: &mut Vec<u8>, lead: &[u8], end: &TcpPeer) -> Result<(), All
     put_tcp(text, end)
 }
 
-/// Appends what was seen of an end of another connection behind what stands before it.
+/// Appends `lead` and what was seen of an end of another connection.
 fn put_datagram_end(text: &mut Vec<u8>, lead: &[u8], end: DatagramPeer) -> Result<(), AllocError>
     ensures { OnOk result (text.new.items ≡ text.old.items ++ (lead.now ++ spec.datagram_value end)) }
 {
@@ -252,7 +252,7 @@ fn put_traffic(text: &mut Vec<u8>, traffic: Traffic) -> Result<(), AllocError>
     text.extend_from_slice(b"}")
 }
 
-/// Appends packets and bytes behind what stands before them.
+/// Appends `lead` and packets and bytes.
 fn put_way(text: &mut Vec<u8>, lead: &[u8], traffic: Traffic) -> Result<(), AllocError>
     ensures { OnOk result (text.new.items ≡ text.old.items ++ (lead.now ++ spec.traffic_value traffic)) }
 {
@@ -285,7 +285,7 @@ fn put_protocol(text: &mut Vec<u8>, state: &State) -> Result<(), AllocError>
     put_direction(text, state.direction)
 }
 
-/// Appends a connection behind what stands before it.
+/// Appends `lead` and a connection.
 fn put_side(text: &mut Vec<u8>, lead: &[u8], key: &Key) -> Result<(), AllocError>
     ensures { OnOk result (text.new.items ≡ text.old.items ++ (lead.now ++ spec.key_value key.now)) }
 {

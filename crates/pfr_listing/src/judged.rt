@@ -16,15 +16,15 @@ pub struct Judged<'a> {
     /// The packet's number in its run, from 1.
     pub number: u64,
     pub clock: Clock,
-    /// What it came to. What a line doesn't say of that is of no meaning: which rules were visited, what is written into the packet,
-    /// and what changes in the table of states.
+    /// What it came to. The parts that a line doesn't say have no meaning: which rules were visited, what is written
+    /// into the packet, and what changes in the table of states.
     pub outcome: Outcome,
     /// The interface on which it was captured, if the run has several.
     pub bound: Bound<'a>,
 }
 
-/// The packet that a line of verdicts tells of, without its newline, if it is what a run writes of one. `text` is room for what a run
-/// writes.
+/// The packet that a line of verdicts, without its newline, tells of, if a run writes such a line. `text` is room for
+/// what a run writes.
 pub fn judged_in<'a>(
     alloc: Global,
     line: &'a [u8],

@@ -1,11 +1,12 @@
-//! What a run wrote, read again: its lines of states, of verdicts and of counters. States are printed as pfctl(8) shows them, or as
-//! JSON.
+//! What a run wrote, read again: its lines of states, of verdicts and of counters. States are printed as pfctl(8) shows
+//! them, or as JSON.
 //!
-//! [`listed`] reads the lines of a run's states and puts them in order; [`put_pfctl`] and [`put_json`] print one of them.
-//! [`judged_in`] reads a line of verdicts, and [`counted_in`] one of counters. A [`Flow`] is what packets are shown by.
+//! A helper of the crates that show something. [`listed`] reads the lines of a run's states and puts them in order;
+//! [`put_pfctl`] and [`put_json`] print one of them. [`judged_in`] reads a line of verdicts, and [`counted_in`] one of
+//! counters. Packets are shown by their [`Flow`].
 //!
-//! Proved is that what is read is what the line says, that the states are those of which the text has the lines, each once, and what is
-//! printed of a state. In which order they come is tested, and that each line of a run is read.
+//! It is proved that what is read is what the line says, that the states are those of the text's lines, each once, and
+//! what is printed of a state. Their order is tested, and that each line of a run is read.
 #![tactic(auto)]
 
 mod counted;

@@ -22,8 +22,8 @@ pub enum Bound<'a> {
 /// A state with what a line says of it.
 #[derive(Drop)]
 pub struct Listed<'a> {
-    /// What a line doesn't say of it is of no meaning: whether a standby is told of it, whether its packets may have options, the place
-    /// of its interface, and which timeout it has.
+    /// The parts that a line doesn't say have no meaning: whether a standby is told of it, whether its packets may have
+    /// options, the place of its interface, and which timeout it has.
     pub state: State,
     pub bound: Bound<'a>,
 }
@@ -54,7 +54,7 @@ pub(crate) struct Parted<'a> {
     pub(crate) bound: Bound<'a>,
 }
 
-/// Parts what a line says of the interface from what stands before: its last word, if that begins with `i=`.
+/// Parts what a line says of the interface from what stands before. It is the last word, if that begins with `i=`.
 pub(crate) fn part<'a>(line: &'a [u8]) -> Parted<'a>
     ensures { line.now ≡ result.plain.now ++ spec.bound_text result.bound }
 {
@@ -71,7 +71,7 @@ pub(crate) fn part<'a>(line: &'a [u8]) -> Parted<'a>
     }
 }
 
-/// Where the blank before the last word of a line stands, or its end if there is none.
+/// The place of the blank before the last word of a line, or the line's end if there is none.
 fn last_word(line: &[u8]) -> usize
     ensures { result ≤ length line.now }
 {
@@ -94,7 +94,8 @@ pub fn is_line(text: &[u8], line: &[u8]) -> bool
     }
 }
 
-/// The state that a line lists, without its newline, if it is what a run writes of one. `text` is room for what a run writes.
+/// The state that a line, without its newline, lists, if a run writes such a line. `text` is room for what a run
+/// writes.
 pub(crate) fn listed_in<'a>(
     line: &'a [u8],
     text: &mut Vec<u8>,

@@ -73,12 +73,12 @@ fn in_their_order<'a>(alloc: Global, text: &'a [u8]) -> Result<Vec<Listed<'a>>, 
     }
 }
 
-/// An end of a connection as a number, by which they are ordered: by addresses, and then by ports.
+/// An end of a connection as a number, which orders ends by addresses, and then by ports.
 fn place_of(end: Endpoint) -> u64 {
     u64::from(end.address.0) * 65536 + u64::from(end.port.0)
 }
 
-/// By what states are ordered: protocol, the end inside behind the firewall, the end outside on the wire, and number.
+/// The order of states: by protocol, the end inside behind the firewall, the end outside on the wire, and number.
 fn order_of(listed: &Listed<'_>) -> (u8, u64, u64, u64) {
     let state = &listed.state;
     (
@@ -89,8 +89,8 @@ fn order_of(listed: &Listed<'_>) -> (u8, u64, u64, u64) {
     )
 }
 
-/// The states of which a text has the lines, as a run writes them: ordered by protocol, by the end inside behind the firewall, by the
-/// end outside on the wire, and by number.
+/// The states whose lines a text has, as a run writes them. They are ordered by protocol, by the end inside behind the
+/// firewall, by the end outside on the wire, and by number.
 pub fn listed<'a>(alloc: Global, text: &'a [u8]) -> Result<Vec<Listed<'a>>, Refused>
     ensures { IfOk result (λ sorted. (states : List Listed) × (spec.AreLinesOf states text.now × IsPermutation states sorted.items)) }
 {

@@ -123,8 +123,8 @@ fn put_ends(text: &mut Vec<u8>, here: &Key, there: &Key, arrow: &[u8]) -> Result
     put_both(text, here.outside, there.outside)
 }
 
-/// A connection on one side as it is shown beside the other one. An echo of ICMP has one identifier: that of the end towards which its
-/// first packet went is shown as it is on the other side.
+/// A connection on one side as it is shown beside the other one. An ICMP echo has one identifier: the end towards which
+/// its first packet went is shown with the identifier of the other side.
 fn seen_beside(direction: Direction, here: &Key, there: &Key) -> Key
     ensures { result ≡ spec.there_for direction here.now there.now }
 {

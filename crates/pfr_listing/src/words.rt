@@ -99,7 +99,7 @@ fn reason_of(word: &[u8]) -> Option<Reason> {
     None
 }
 
-/// A number in decimal digits, of as many bits as are wanted.
+/// A number in decimal digits, of type `T`.
 fn parsed<T: FromStr>(word: &[u8]) -> Option<T>
 where
     T::Err: Drop,

@@ -4,7 +4,7 @@ ghost use Rattle.pfr_marks.specs.Braces as spec;
 
 use crate::mark::{Mark, is};
 
-/// How many braces are open behind a mark; none if it closes one that isn't open.
+/// How many braces are open behind a mark; `None` if it closes one that isn't open.
 fn open_behind(before: usize, mark: &Mark<'_>) -> Option<usize>
     ensures { result ≡ spec.open_behind before mark.now }
 {

@@ -16,7 +16,7 @@ merge_first : (x : Event) (xs events : List Event) → ((y : Event) (ys : List E
 merge_first x xs [] least = ap (λ (rest : List Event). x ∷ rest) (sym (merge-nil xs))
 merge_first x xs (y ∷ ys) least = rw (least y ys refl) refl
 
--- where the next event is another list's, it goes first too
+-- if the next event is another list's, it goes first too
 merge_later : (x : Event) (xs events : List Event) → ((y : Event) (ys : List Event) → xs ≡ y ∷ ys → comes_before x y ≡ true) → merge xs (x ∷ events) ≡ x ∷ merge xs events
 merge_later x [] events first = refl
 merge_later x (y ∷ ys) events first = rw (first y ys refl) refl

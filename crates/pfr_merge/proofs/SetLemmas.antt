@@ -20,7 +20,7 @@ set_self {X = X} (y ∷ xs) zero x at =
     ap (λ (z : X). z ∷ xs) (sym same)
 set_self {X = X} (y ∷ xs) (suc i) x at = ap (λ (zs : List X). y ∷ zs) (set_self xs i x at)
 
--- what all elements say stays the same where the new one says what the old one said
+-- what all elements say stays the same if the new one says what the old one said
 pub map_kept : {X Y : Type 0} (f : X → Y) (xs : List X) (i : ℕ) (x y : X) → slice_get xs i ≡ Some x → f y ≡ f x → map f (set xs i y) ≡ map f xs
 map_kept f [] i x y at same = refl
 map_kept {Y = Y} f (z ∷ xs) zero x y at same =

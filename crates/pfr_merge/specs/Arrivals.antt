@@ -67,11 +67,11 @@ pub record Captured : Type 0 where
   pub records : List RecordBytes
   pub ending : Result Tail CaptureError
 
--- its events, if it stands at a place of the list of captures
+-- the events of a capture that stands at a place of the list of captures
 abbrev pub events_of : ℕ → Captured → List Event
 events_of place c = map (event_of place c.form) c.records ++ last_event place c.ending
 
--- those of each capture, the first of which stands at a place
+-- the events of each capture; the first capture stands at a place
 abbrev pub events_from : ℕ → List Captured → List (List Event)
 events_from place [] = []
 events_from place (c ∷ captures) = events_of place c ∷ events_from (suc place) captures

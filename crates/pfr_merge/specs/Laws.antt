@@ -8,7 +8,7 @@ use Rattle.pfr_merge.specs.Merging.{IsMerge, merged}
 abbrev pub OneMerge : Type 0
 OneMerge = (lists : List (List Event)) (one other : List Event) → IsMerge lists one → IsMerge lists other → one ≡ other
 
--- and what `merged` computes is it
+-- and `merged` computes it
 abbrev pub MergedIsMerge : Type 0
 MergedIsMerge = (lists : List (List Event)) → IsMerge lists (merged lists)
 
@@ -17,7 +17,7 @@ abbrev pub is_of : ℕ → Event → Bool
 is_of place (came a) = a.place == place
 is_of place (refused other e) = other == place
 
--- of several captures' merge, what is of one of them is that one's events in their order
+-- in the merge of several captures, the events of one of them are all of its events, in their order
 abbrev pub EachKeepsItsOrder : Type 0
 EachKeepsItsOrder =
     (captures : List Captured) (place : ℕ) (capture : Captured)

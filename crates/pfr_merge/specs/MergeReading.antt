@@ -29,7 +29,7 @@ abbrev pub waiting_in : Option RecordBytes → List RecordBytes
 waiting_in None = []
 waiting_in (Some r) = r ∷ []
 
--- how many that are
+-- how many records wait: none or one
 abbrev pub waits_of : Option RecordBytes → ℕ
 waits_of None = 0
 waits_of (Some r) = 1
@@ -59,8 +59,8 @@ pub record Continues (place : ℕ) (w : Waiting) (events : List Event) : Type 0 
   pub is : events ≡ map (event_of place w.reading.form) (waiting_in w.head) ++ more
   pub may : MayGive place w.reading.over more
 
--- Which bytes may follow those that were read of a capture, by how its reading is over: any until then, and where the capture has ended
--- those with which it ends so. If it ended with the bytes of its source, no more may follow.
+-- Which bytes may follow those that were read of a capture: any until its reading is over, and then those with which
+-- the capture ends as its reading did. If it ended with the bytes of its source, no more may follow.
 abbrev pub FollowsOver : Reading → List ℕ → Option (Result Tail CaptureError) → Type 0
 FollowsOver reading more None = ⊤
 FollowsOver reading more (Some (Ok tail)) = EndsAs reading.form.order reading.count (reading.ahead ++ more) (Ok tail)
@@ -106,13 +106,13 @@ abbrev pub AllTold : List Bool → Type 0
 AllTold [] = ⊤
 AllTold (told ∷ more) = IsTrue told × AllTold more
 
--- of two lists of lists, those at the same places one behind the other
+-- two lists of lists, joined place by place
 abbrev pub joined : {X : Type 0} → List (List X) → List (List X) → List (List X)
 joined [] lists = []
 joined (xs ∷ lists) [] = []
 joined (xs ∷ lists) (ys ∷ others) = (xs ++ ys) ∷ joined lists others
 
--- the same of each capture, the first of which stands at a place
+-- `HasTaken` of each capture; the first capture stands at a place
 abbrev pub HaveTaken : ℕ → List Waiting → List (List ℕ) → List (List Event) → Type 0
 HaveTaken place [] [] [] = ⊤
 HaveTaken place (w ∷ ws) (read ∷ reads) (taken ∷ more) = HasTaken place w read taken × HaveTaken (suc place) ws reads more
@@ -136,8 +136,8 @@ AllRefilled [] [] [] [] = ⊤
 AllRefilled (old ∷ olds) (new ∷ news) (before ∷ befores) (left ∷ lefts) = Refilled old new before left × AllRefilled olds news befores lefts
 AllRefilled _ _ _ _ = ⊥
 
--- Of captures that begin with the bytes read, the merge has given these records and no others: whatever they may still give, the merge
--- of all that they give is these records and then the merge of that.
+-- Of captures that begin with the bytes read, the merge has given these records and no others: whatever the captures
+-- may still give, the merge of all that they give is these records and then the merge of what they still give.
 pub record HasMerged (ws : List Waiting) (reads : List (List ℕ)) (list : List Arrived) : Type 0 where
   pub taken : List (List Event)
   pub each : HaveTaken 0 ws reads taken
@@ -160,11 +160,11 @@ abbrev pub waits_in_all : List Waiting → ℕ
 waits_in_all [] = 0
 waits_in_all (w ∷ ws) = waits_of w.head + waits_in_all ws
 
--- no capture has more than 2^40
+-- no reader has given more than 2^40 records
 abbrev pub AreFew : List Waiting → Type 0
 AreFew ws = (k : ℕ) (w : Waiting) → slice_get ws k ≡ Some w → w.reading.count ≤ 2 ^ 40
 
--- the merge has given so many records, or more
+-- the merge has given `count` records, or more
 abbrev pub HasPassedOn : ℕ → List Waiting → Type 0
 HasPassedOn count ws = (count + waits_in_all ws ≤ count_in_all ws) × AreFew ws
 
@@ -246,7 +246,7 @@ IsOverWith ws (Ok (Some found)) = ⊥
 IsOverWith ws (Ok None) = AreOver ws
 IsOverWith ws (Err stop) = StopsAt ws stop
 
--- where reading failed, the bytes that came of the capture hold no further record
+-- if reading failed, the bytes that came of the capture hold no further record
 abbrev pub LacksRecordAt : List Waiting → ℕ × CaptureError → Type 0
 LacksRecordAt ws stop = (w : Waiting) → slice_get ws stop.0 ≡ Some w → LacksRecord w.reading stop.1
 

@@ -6,7 +6,7 @@ use Rattle.pfr_merge.specs.declared.time.Time.{Time}
 use Rattle.pfr_merge.specs.Arrivals.{is_before, time_of}
 use Rattle.pfr_merge.specs.MergeReading.{IsOfCapture, Waiting, time_in}
 
--- of the first n captures the one at a place has the earliest record that waits, and it is the first of those that have one as early
+-- of the first n captures the one at a place has the earliest record that waits; of equally early ones it is the first
 pub record IsLeast (times : List (Option Time)) (n place : ℕ) (time : Time) : Type 0 where
   pub within : place < n
   pub stands : slice_get times place ≡ Some (Some time)

@@ -57,8 +57,8 @@ abbrev pub AreOpened : List (List ℕ) → Type 0
 AreOpened [] = ⊤
 AreOpened (text ∷ texts) = ((form : Form) × (opening_of text ≡ Ok form)) × AreOpened texts
 
--- Of the source at a place a read failed, behind all records of what came of it: together with it the captures give these records, and
--- then the failure. The others have what their sources have left.
+-- A read of the source at a place failed, behind all records of the bytes that came of it: the captures give these
+-- records together, and then the failure. The other captures have what their sources have left.
 pub record FailedGive (reads lefts : List (List ℕ)) (place : ℕ) (list : List Arrived) : Type 0 where
   pub captures : List Captured
   pub are : AreCaptures (joined reads (slice_set lefts place [])) captures
@@ -125,7 +125,7 @@ GivenIsAll =
     → AreOver ws
     → (all_events captures ≡ map came given) × (tail_of_all captures ≡ merged_tail ws)
 
--- where a record was too long, they are those before that refusal
+-- if a record was too long, the records given are those before that refusal
 abbrev pub GivenIsAllBeforeTooLong : Type 0
 GivenIsAllBeforeTooLong =
     (ws : List Waiting) (reads mores : List (List ℕ)) (given : List Arrived) (captures : List Captured) (place asked : ℕ)
@@ -135,8 +135,8 @@ GivenIsAllBeforeTooLong =
     → StopsAt ws (place, RecordTooLong asked)
     → StopsBehind captures given place (RecordTooLong asked)
 
--- Where a read failed, they are those before the failure. It ends its capture behind the bytes that came of it: the text at its place is
--- those bytes, and the capture there is refused for the read.
+-- If a read failed, the records given are those before the failure. The failure ends its capture behind the bytes that
+-- came of it: the text at its place is those bytes, and the capture there is refused for the read.
 abbrev pub GivenIsAllBeforeFailure : Type 0
 GivenIsAllBeforeFailure =
     (ws : List Waiting) (reads mores : List (List ℕ)) (given : List Arrived) (captures : List Captured) (place : ℕ) (c : Captured)
@@ -151,7 +151,7 @@ GivenIsAllBeforeFailure =
 
 -- ---- several calls
 
--- two calls of a merge, one after the other, read on as one does that gives the records of both
+-- two calls of a merge, one after the other, read on as one call that gives the records of both
 abbrev pub CallsFollow : Type 0
 CallsFollow =
     (olds mids news : List Waiting) (befores middles lefts : List (List ℕ)) (one other : List Arrived)

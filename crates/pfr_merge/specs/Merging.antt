@@ -24,7 +24,7 @@ pub record IsNext (lists : List (List Event)) (place : ℕ) (x : Event) (rest : 
 abbrev pub AreEmpty : List (List Event) → Type 0
 AreEmpty lists = (k : ℕ) (events : List Event) → slice_get lists k ≡ Some events → events ≡ []
 
--- a list takes the events of many lists, one after the other, each where it is the next
+-- a list takes the events of many lists, one after the other, each when it is the next
 abbrev pub IsMerge : List (List Event) → List Event → Type 0
 IsMerge lists [] = AreEmpty lists
 IsMerge lists (x ∷ events) = (place : ℕ) × (rest : List Event) × IsNext lists place x rest × IsMerge (slice_set lists place rest) events

@@ -30,14 +30,14 @@ pub record MergeOpens (befores lefts : List (List ℕ)) (ws : List Waiting) : Ty
   pub has : HasMerged ws came []
   pub follow : MayFollowAll ws lefts
 
--- the capture at a place is the first of which the header is refused
+-- the capture at a place is the first whose header is refused
 pub record IsRefusedAt (texts : List (List ℕ)) (place : ℕ) (e : CaptureError) : Type 0 where
   pub text : List ℕ
   pub stands : slice_get texts place ≡ Some text
   pub says : opening_of text ≡ Err e
   pub before : AreOpened (take place texts)
 
--- of the capture at a place not all of the header's 24 bytes had come, and those before it were opened
+-- not all of the header's 24 bytes of the capture at a place had come, and the captures before it were opened
 pub record IsShortAt (befores lefts : List (List ℕ)) (place : ℕ) : Type 0 where
   pub text : List ℕ
   pub left : List ℕ

@@ -14,9 +14,9 @@ use std::marker::Model;
 pub struct Input {
     capture: Capture,
     head: Option<Record>,
-    /// Whether its end was read. Then nothing of it is waited for.
+    /// Whether its end was read. Then no call waits for its source.
     has_ended: bool,
-    /// How many bytes its records had taken where the last batch began, and the most that they took in a batch before.
+    /// How many bytes its records had taken when the last batch began, and the most that they took in a batch before.
     begun: usize,
     most: usize,
 }
@@ -84,7 +84,7 @@ impl Input {
         &self.capture
     }
 
-    /// Takes a record of it back that isn't needed any more.
+    /// Takes back a record of it that isn't needed any more.
     pub fn give_back(&mut self, packet: Record)
         ensures { self.new ≡ self.old }
     {
@@ -104,8 +104,8 @@ impl Input {
         self.begun = self.capture.taken();
     }
 
-    /// Whether who reads its records of the next batch may have to wait for its source, if they take no more bytes than those of the
-    /// largest batch so far.
+    /// Whether reading its records of the next batch may have to wait for its source, if they take no more bytes than
+    /// those of the largest batch so far.
     pub fn may_wait(&self) -> bool {
         !self.has_ended && self.capture.may_wait(self.most.max(self.taken()))
     }

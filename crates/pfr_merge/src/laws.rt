@@ -7,7 +7,7 @@ pub fn one_merge()
     ensures { OneMerge }
 {}
 
-/// They have one, which `merged` computes.
+/// Several lists have a merge, which `merged` computes.
 pub fn merged_is_merge()
     ensures { MergedIsMerge }
 {}
@@ -32,22 +32,22 @@ pub fn given_is_the_beginning()
     ensures { GivenIsTheBeginning }
 {}
 
-/// Once all captures are over, it is all of it.
+/// Once all captures are over, what a merge has given is all of their merge.
 pub fn given_is_all()
     ensures { GivenIsAll }
 {}
 
-/// Where a record was too long, it is all that comes before that refusal.
+/// If a record was too long, what a merge has given is all that comes before that refusal.
 pub fn given_is_all_before_too_long()
     ensures { GivenIsAllBeforeTooLong }
 {}
 
-/// Where a read failed, it is all that comes before the failure.
+/// If a read failed, what a merge has given is all that comes before the failure.
 pub fn given_is_all_before_failure()
     ensures { GivenIsAllBeforeFailure }
 {}
 
-/// A merge of captures of which no record was given has given none.
+/// A merge of captures whose readers have given no record has given none.
 pub fn merge_begins()
     ensures { MergeBegins }
 {}

@@ -59,7 +59,7 @@ fn open_each<S: Source>(
 }
 
 impl Merge {
-    /// Opens the captures of sources, each at its place, in their order. The first one that is refused, and its place, end it.
+    /// Opens the captures of sources, in their order. It stops at the first that is refused, and returns its place.
     pub fn open<S: Source>(alloc: Global, sources: &mut [S]) -> Result<Merge, (usize, CaptureError)>
         ensures told { map S.told sources.new ≡ map S.told sources.old }
         ensures starts { IfOk result (λ merge. NoneRefused merge × HasPassedOn 0 merge × (length merge ≡ length sources.old)) }
@@ -157,14 +157,14 @@ impl Merge {
         }
     }
 
-    /// Whether who reads the next batch may have to wait for a source, if it has of no capture more bytes than the largest one so far.
-    /// Nothing rests on it: a source may have more by now, or have ended.
+    /// Whether reading the next batch may have to wait for a source, if it has no more bytes of any capture than that
+    /// capture's largest batch so far. Nothing depends on it: a source may have more by now, or have ended.
     pub fn may_wait(&self) -> bool {
         self.inputs.iter().any(|input| input.may_wait())
     }
 
-    /// Takes a record of the capture at a place back that isn't needed any more. Its buffer may serve for one that is
-    /// still to be read.
+    /// Takes back a record of the capture at a place that isn't needed any more. Its buffer may serve for a later
+    /// record.
     pub fn give_back(&mut self, place: usize, packet: Record)
         ensures { self.new ≡ self.old }
     {
@@ -187,8 +187,8 @@ fn joint_tail(inputs: &[Input]) -> Tail
     Tail::Clean
 }
 
-/// Reads the next record of each capture of which none waits, in the order of the captures, up to one that is
-/// refused.
+/// Reads the next record of each capture of which none waits, in the order of the captures. It stops at one that
+/// is refused.
 fn refill_all<S: Source>(
     inputs: &mut [Input],
     sources: &mut [S],
@@ -217,7 +217,7 @@ fn refill_all<S: Source>(
     Ok(())
 }
 
-/// The earlier of the earliest record so far and one of the capture at a place, if it has one.
+/// The earlier of the earliest record so far and the record of the capture at a place, if it has one.
 fn better(best: Option<(usize, Time)>, time: Option<Time>, place: usize) -> Option<(usize, Time)>
     ensures { (times : List (Option Time)) → slice_get times place ≡ Some time → LeastSo times place best → LeastSo times (place + 1) result }
 {
@@ -246,7 +246,7 @@ fn least(inputs: &[Input]) -> Option<(usize, Time)>
     best
 }
 
-/// The same record of the capture at a place.
+/// The record, as one of the capture at a place.
 fn placed(place: usize, packet: Record) -> Record
     ensures bytes { bytes_of result ≡ bytes_of packet }
     ensures fields { (form : Form) → FieldsOf form packet → IsOfCapture place form result }

@@ -56,7 +56,7 @@ Takes-then a x b y c p q =
 
 -- ---- exact formats
 
--- of so many bytes
+-- a format whose values have `size` bytes each
 pub record IsExact {A : Type 0} (f : Format A) (size : ℕ) : Type 0 where
   pub len : (x : A) → f.fits x ≡ true → length (f.spelling x) ≡ size
   pub takes : (bytes : List ℕ) (x : A) (rest : List ℕ) → IsBytes bytes → f.reading bytes ≡ Ok (x, rest)

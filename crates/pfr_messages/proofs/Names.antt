@@ -12,7 +12,7 @@ use Rattle.pfr_messages.proofs.Formats.{IsBytes, IsBytes-rest, IsExact, Takes, b
 abbrev taken : List ℕ → List ℕ → Result (List ℕ × List ℕ) Fault
 taken text rest = Ok (text, rest)
 
--- what a byte tells that may stand where the name ended before or not, by whether it is 0 and whether no place is behind it
+-- a byte that may stand: whether the name ended before it, whether it is 0, and whether it has the last place
 stands : (ended is_zero last : Bool) → (is_zero || (not ended && not last)) ≡ true
     → (last ≡ true → is_zero ≡ true) × ((not ended || is_zero) ≡ true) × ((ended || is_zero) ≡ is_zero)
 stands true true last may = (λ e. refl, refl, refl)

@@ -20,7 +20,7 @@ pub record SectionAgain {R : Type 0} (kind : Kind R) (before : ℕ) (records : L
   pub starts : Starts bytes head
   pub above : Above before head.action
   pub read : section_at kind head ≡ Ok (records, next)
-  -- the end stands there only where there is no section
+  -- the end stands there only if there is no section
   pub none : head.action ≡ 12 → (is_empty records ≡ true) × (next.action ≡ 12)
 
 no_section : {R : Type 0} (kind : Kind R) (h : Head) → eqb h.action kind.action ≡ false → section_at kind h ≡ Ok ([], h)

@@ -19,7 +19,7 @@ Gives view (Ok x) read = read ≡ Ok (view x)
 Gives view (Err fault) read = read ≡ Err fault
 
 -- A format: the bytes of a value, the values that have such bytes, and the value at the front of bytes with the bytes behind it.
--- A byte that no value has is a fault, told by how many bytes there are from it on. Where the bytes end too soon, the count of
+-- A byte that no value has is a fault, told by the count of bytes from it on. If the bytes end too soon, the count of
 -- records that promised them is at fault.
 pub record Format (A : Type 0) : Type 0 where
   pub spelling : A → List ℕ
@@ -49,7 +49,7 @@ number_at width bytes =
     if nat_lt (length bytes) (byte_len width) then Err Count else
     Ok (from_be_bytes width (take (byte_len width) bytes), drop (byte_len width) bytes)
 
--- a number of so many bytes
+-- a number of `byte_len width` bytes
 abbrev pub number : Width → Format ℕ
 number width = record { spelling = to_be_bytes width; fits = λ n. nat_lt n (256 ^ byte_len width); reading = number_at width }
 
@@ -73,11 +73,11 @@ abbrev pub are_padded : Bool → List ℕ → Bool
 are_padded ended [] = ended
 are_padded ended (b ∷ bytes) = (not ended || b == 0) && are_padded (ended || b == 0) bytes
 
--- a byte may stand where so many places are behind it: another one than 0 only before the first zero, and not in the last place
+-- a byte may stand with `places` places behind it: a nonzero one only before the first zero, and not in the last place
 abbrev pub may_stand : Bool → ℕ → ℕ → Bool
 may_stand ended places b = b == 0 || (not ended && not (places == 0))
 
--- so many bytes that end a name and its zeros, of which some may have been read
+-- the last `places` bytes of a name and its zeros; `ended` says whether a zero was read before them
 unfoldable pub padded_at : ℕ → Bool → List ℕ → Result (List ℕ × List ℕ) Fault
 padded_at zero ended bytes = Ok ([], bytes)
 padded_at (suc places) ended [] = Err Count

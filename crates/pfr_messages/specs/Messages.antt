@@ -57,7 +57,7 @@ rise kind last (r ∷ records) = rises last (kind.number r).0 && rise kind (Some
 abbrev pub header : ℕ → ℕ → List ℕ
 header action count = action ∷ 0 ∷ to_be_bytes w16 count
 
--- a header and the records behind it, where there are any
+-- a header and the records behind it; nothing if there are no records
 abbrev pub section : {R : Type 0} → Kind R → List R → List ℕ
 section kind [] = []
 section kind (r ∷ records) = header kind.action (length (r ∷ records)) ++ flat_map kind.format.spelling (r ∷ records)
@@ -122,7 +122,7 @@ abbrev pub is_count : ℕ → ℕ → ℕ → Bool
 is_count action count left =
     not (count == 0) && ((not (action == 12) || count == 1) && nat_le (count * size_of action) left)
 
--- the header behind a section of an action, 0 for none
+-- the header behind a section of the action `before`, 0 for none
 unfoldable pub head_at : ℕ → List ℕ → Result Head Fault
 head_at before (action ∷ pad ∷ high ∷ low ∷ rest) =
     if not (may_follow before action) then Err (faults.Action action) else
@@ -139,7 +139,7 @@ record_at kind last bytes = do
       then kind.format.reading bytes >>= (λ r. Ok (n.0, r.0, r.1))
       else Err (faults.Differs (length bytes))
 
--- so many records whose numbers rise from above the last one
+-- `count` records whose numbers rise from above the last one
 unfoldable pub records_at : {R : Type 0} → Kind R → Option ℕ → ℕ → List ℕ → Result (List R × List ℕ) Fault
 records_at kind last zero bytes = Ok ([], bytes)
 records_at kind last (suc count) bytes = do
@@ -147,14 +147,14 @@ records_at kind last (suc count) bytes = do
   records ← records_at kind (Some first.0) count first.2
   Ok (first.1 ∷ records.0, records.1)
 
--- the records of a kind and the header behind them, where a header is of the kind
+-- the records of a kind and the header behind them; no records if the header is of another kind
 unfoldable pub section_at : {R : Type 0} → Kind R → Head → Result (List R × Head) Fault
 section_at kind head =
     if not (head.action == kind.action) then Ok ([], head) else
     records_at kind None head.count head.rest >>= (λ records.
     head_at kind.action records.1 >>= (λ next. Ok (records.0, next)))
 
--- what the sections say that are all of the bytes
+-- what the sections of a message say, which are all of the bytes
 unfoldable pub sections_at : List ℕ → List ℕ → Result Content Fault
 sections_at checksum bytes = do
   head ← head_at 0 bytes
@@ -165,7 +165,7 @@ sections_at checksum bytes = do
       then Ok (record { checksum = checksum; insertions = insertions.0; updates = updates.0; deletions = deletions.0 })
       else Err faults.Trailing
 
--- the refusal of a fault in a message of so many bytes
+-- the refusal of a fault in a message of `len` bytes
 abbrev pub refusal : ℕ → Fault → SyncError
 refusal len (faults.Action action) = refusals.Action action
 refusal len faults.Count = refusals.Count
@@ -190,11 +190,11 @@ message_at bytes =
 
 -- ---- what the code answers
 
--- a header without where it lies in memory
+-- a header, without its place in memory
 abbrev pub head : H.Head → Head
 head h = record { action = h.action; count = h.count; rest = h.rest.now }
 
--- what records say without where they lie in memory
+-- what records say, without their place in memory
 abbrev pub content : Parts → Content
 content p =
     record { checksum = p.checksum; insertions = p.insertions.items; updates = p.updates.items; deletions = p.deletions.items }
@@ -208,7 +208,7 @@ abbrev pub GivesRead : {X Y : Type 0} → (X → Y) → Result X ReadError → R
 GivesRead view (Ok x) read = read ≡ Ok (view x)
 GivesRead view (Err e) read = IsFault e read
 
--- what an error is in a message of so many bytes
+-- the refusal of an error in a message of `len` bytes
 abbrev pub refusal_of : ℕ → ReadError → SyncError
 refusal_of len errors.Memory = refusals.Memory
 refusal_of len (errors.Fault fault) = refusal len fault

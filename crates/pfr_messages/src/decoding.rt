@@ -39,12 +39,12 @@ fn message_at(alloc: Global, bytes: &[u8]) -> Result<(Parts, usize), SyncError>
 
 /// The message at the front of bytes, and how many bytes it has.
 ///
-/// It is refused with what is wrong first, from the left. Bytes behind the message aren't read. Memory is taken for the
+/// A refusal says what is wrong first, from the left. Bytes behind the message aren't read. Memory is taken for the
 /// records that are there.
 pub fn decode(alloc: Global, bytes: &[u8]) -> Result<(Message, usize), SyncError>
-    // What is read is spelled so.
+    // The bytes that are read spell the message.
     ensures found { IfOk result (λ x. (x.1 ≤ length bytes.now) × spec.Spells (take x.1 bytes.now) x.0) }
-    // What is spelled so is read, whatever stands behind it, unless memory runs out.
+    // A message's spelling is read, whatever stands behind it, unless memory runs out.
     ensures only { (c : Content) (rest : List ℕ) → spec.Fits c → bytes.now ≡ spec.spelling c ++ rest → spec.GivesMessage (λ x. x) result (Ok (c, length (spec.spelling c))) }
     // Which refusal it is.
     ensures exact { spec.GivesMessage (λ x. x) result (spec.message_at bytes.now) }

@@ -9,7 +9,7 @@ use crate::message::Message;
 use crate::writing::{put_bytes, put_u16};
 use std::alloc::{AllocError, Global};
 
-/// How many bytes a section has with so many records.
+/// How many bytes a section of `count` records has, each record of `size` bytes.
 fn section_len(size: usize, count: usize) -> usize
     requires record_size { size ≤ 242 }
     requires sixteen_bits { count < 2 ^ 16 }
@@ -18,7 +18,7 @@ fn section_len(size: usize, count: usize) -> usize
     if count == 0 { 0 } else { 4 + size * count }
 }
 
-/// A header and the records behind it; nothing where there are none.
+/// Spells a header and the records behind it, or nothing if there are no records.
 fn put_section<R: Record>(out: &mut Vec<u8>, records: &[R]) -> Result<(), AllocError>
     requires fit { list_all R.kind.format.fits records.now ≡ true }
     requires short { length records.now < 2 ^ 16 }
@@ -35,7 +35,7 @@ fn put_section<R: Record>(out: &mut Vec<u8>, records: &[R]) -> Result<(), AllocE
     Ok(())
 }
 
-/// Spells a message at the end of bytes. Where memory is refused, a part of it may stand there.
+/// Spells a message at the end of bytes. If memory is refused, a part of it may stand there.
 pub fn encode_onto(message: &Message, out: &mut Vec<u8>) -> Result<(), AllocError>
     ensures { OnOk result (out.new.items ≡ out.old.items ++ spec.spelling message.now) }
 {

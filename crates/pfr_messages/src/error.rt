@@ -5,7 +5,7 @@ ghost use Rattle.pfr_messages.specs.declared.error.SyncError.TheVariants.{Memory
 use std::alloc::{AllocError, AllocFailed};
 use thiserror::Error;
 
-/// Why bytes don't begin with a message, which is what is wrong first, from the left; or why a standby refuses a message.
+/// Why bytes don't begin with a message: what is wrong first, from the left. Or why a standby refuses a message.
 #[derive(Clone, Copy, Debug, PartialEq, Eq, Drop, Error)]
 pub enum SyncError {
     /// There are fewer bytes than a message has.
@@ -17,7 +17,7 @@ pub enum SyncError {
     /// The length is below 40 or above 1480.
     #[error("length")]
     Length,
-    /// The action of a header isn't one of a message, isn't above the one before, or is the end where nothing was before.
+    /// The action of a header isn't one of a message, isn't above the one before, or is the end with nothing before it.
     #[error("action {0}")]
     Action(u8),
     /// A count is 0, the end's count isn't 1, or there are fewer records than a count says.

@@ -9,7 +9,7 @@ use std::alloc::{AllocError, AllocFailed};
 /// The first fault from the left.
 #[derive(Clone, Copy, Debug, PartialEq, Eq)]
 pub(crate) enum Fault {
-    /// The action of a header isn't one of a message, isn't above the one before, or is the end where nothing was before.
+    /// The action of a header isn't one of a message, isn't above the one before, or is the end with nothing before it.
     Action(u8),
     /// A count is 0, the end's count isn't 1, or there are fewer records than a count says.
     Count,
@@ -17,7 +17,7 @@ pub(crate) enum Fault {
     NoEnd,
     /// Bytes stand behind the end.
     Trailing,
-    /// A byte that no message has there; so many bytes stand from it on.
+    /// A byte that no message has there, by the count of bytes from it on.
     Differs(usize),
 }
 
@@ -29,7 +29,7 @@ pub(crate) enum ReadError {
 }
 
 impl Fault {
-    /// What it is in a message of so many bytes.
+    /// What it is in a message of `len` bytes.
     fn in_message(self, len: usize) -> SyncError
         ensures { result ≡ spec.refusal len self }
     {
@@ -44,7 +44,7 @@ impl Fault {
 }
 
 impl ReadError {
-    /// What it is in a message of so many bytes.
+    /// What it is in a message of `len` bytes.
     pub(crate) fn in_message(self, len: usize) -> SyncError
         ensures { result ≡ spec.refusal_of len self }
     {

@@ -23,7 +23,7 @@ pub(crate) fn behind<'a>(text: &[u8], bytes: &'a [u8]) -> Result<&'a [u8], Fault
     Ok(rest)
 }
 
-/// What stands behind so many zeros.
+/// What stands behind `count` zeros.
 pub(crate) fn behind_zeros(count: usize, bytes: &[u8]) -> Result<&[u8], Fault>
     ensures { Gives (λ rest. rest.now) result (behind (zeros count) bytes.now) }
 {
@@ -131,7 +131,7 @@ pub(crate) fn timeout_at(bytes: &[u8]) -> Result<(Timeout, &[u8]), Fault>
     }
 }
 
-/// The number of a rule, none where it is 2^32 - 1.
+/// The number of a rule, None if it is 2^32 - 1.
 pub(crate) fn rule_at(bytes: &[u8]) -> Result<(Option<RuleNumber>, &[u8]), Fault>
     ensures { Gives (λ x. (x.0, x.1.now)) result (spec.rule.reading bytes.now) }
 {
@@ -143,7 +143,7 @@ pub(crate) fn rule_at(bytes: &[u8]) -> Result<(Option<RuleNumber>, &[u8]), Fault
     }
 }
 
-/// Whether a byte may stand at a place of a name that ended before it, or didn't.
+/// Whether a byte may stand at a place of a name; `ended` says whether the name ended before it.
 fn may_stand(ended: bool, place: usize, byte: u8) -> bool
     ensures { result ≡ fields.may_stand ended (15 - place) byte }
 {

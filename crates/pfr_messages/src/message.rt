@@ -7,8 +7,8 @@ use std::marker::Model;
 
 /// What a standby is told at once. Contracts see what it says.
 ///
-/// It keeps by itself that it has a spelling: it is about some state; numbers rise within each kind of records; codes and
-/// numbers are such as states have; it has at most 1480 bytes.
+/// It always has a spelling: it is about some state; numbers rise within each kind of records; codes and numbers are
+/// such as states have; it has at most 1480 bytes.
 #[derive(Drop)]
 pub struct Message {
     checksum: [u8; 16],

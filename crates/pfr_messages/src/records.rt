@@ -45,10 +45,10 @@ pub struct Insertion {
     pub forth: Traffic,
     /// What went the other way.
     pub back: Traffic,
-    /// The number by which the firewall is known that made it.
+    /// The number of the firewall that made it.
     pub creator: u32,
     pub protocol: Protocol,
-    /// The way of the packet that made it.
+    /// The direction of the packet that made it.
     pub direction: Direction,
     pub timeout: Timeout,
 }
@@ -60,7 +60,7 @@ pub struct Update {
     /// The end of the state's maker.
     pub maker: Peer,
     pub other: Peer,
-    /// The number by which the firewall is known that made it.
+    /// The number of the firewall that made it.
     pub creator: u32,
     /// Seconds until it is no more.
     pub remaining: u32,
@@ -71,6 +71,6 @@ pub struct Update {
 #[derive(Clone, Copy, Debug, PartialEq, Eq)]
 pub struct Deletion {
     pub number: StateNumber,
-    /// The number by which the firewall is known that made it.
+    /// The number of the firewall that made it.
     pub creator: u32,
 }

@@ -26,7 +26,7 @@ pub(crate) struct Parts {
     pub deletions: Vec<Deletion>,
 }
 
-/// Whether an action is one of a message and may follow another one, 0 for none.
+/// Whether an action is one of a message and may follow the action `before`, 0 for none.
 fn may_follow(before: u8, action: u8) -> bool
     ensures { result ≡ spec.may_follow before action }
 {
@@ -45,14 +45,14 @@ fn size_of(action: u8) -> usize
     }
 }
 
-/// Whether a header may have a count where so many bytes stand behind it.
+/// Whether a header may have the count `count` if `left` bytes stand behind it.
 fn is_count(action: u8, count: u16, left: usize) -> bool
     ensures { result ≡ spec.is_count action count left }
 {
     count != 0 && (action != 12 || count == 1) && usize::from(count) * size_of(action) <= left
 }
 
-/// The header behind a section of an action, 0 for none.
+/// The header behind a section of the action `before`, 0 for none.
 #[tactic(auto, unfolding(crate::specs::Messages::head_at))]
 fn head_at(before: u8, bytes: &[u8]) -> Result<Head<'_>, Fault>
     ensures { Gives spec.head result (spec.head_at before bytes.now) }
@@ -101,7 +101,7 @@ fn record_at<R: Record>(last: Option<u64>, bytes: &[u8]) -> Result<(u64, R, &[u8
     Ok((number, record, rest))
 }
 
-/// So many records whose numbers rise.
+/// `count` records whose numbers rise.
 fn records_at<R: Record>(
     alloc: Global,
     count: u16,
@@ -121,7 +121,7 @@ fn records_at<R: Record>(
     Ok((records, rest))
 }
 
-/// The records of a kind and the header behind them; none where the header is of another kind.
+/// The records of a kind and the header behind them; no records if `head` is of another kind.
 #[tactic(auto, unfolding(crate::specs::Messages::section_at))]
 fn section_at<'a, R: Record>(alloc: Global, head: Head<'a>) -> Result<(Vec<R>, Head<'a>), ReadError>
     ensures { spec.GivesRead (λ x. (x.0.items, spec.head x.1)) result (spec.section_at R.kind (spec.head head.entry)) }
@@ -134,7 +134,7 @@ fn section_at<'a, R: Record>(alloc: Global, head: Head<'a>) -> Result<(Vec<R>, H
     Ok((records, next))
 }
 
-/// What the sections say that are all of the bytes.
+/// What the sections of a message say, which are all of the bytes.
 #[tactic(auto, unfolding(crate::specs::Messages::sections_at))]
 pub(crate) fn sections_at(
     alloc: Global,

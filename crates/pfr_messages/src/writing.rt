@@ -9,7 +9,7 @@ use crate::records::{Deletion, Insertion, Parties, Peer, Update};
 use pfr_net::{Direction, IfName, RuleNumber, Timeout};
 use std::alloc::AllocError;
 
-/// As many zeros as stand together in a record.
+/// The most zeros that stand together in a record.
 const ZEROS: [u8; 16] = [0; 16];
 
 pub(crate) fn put_bytes(out: &mut Vec<u8>, bytes: &[u8]) -> Result<(), AllocError>

@@ -1,4 +1,4 @@
--- Numbers that are capped far above a limit are within the limit where the numbers themselves are.
+-- A number that is capped far above a limit is within the limit exactly if the number itself is.
 use Rattle.std.proofs.Common.{◌≡◌, ℕ, ◌<◌, ◌≤◌, Bool, true, false, ◌&&◌, if◌then◌else◌, min, leb, List, Option, Some, None, refl, sym, arith}
 use Rattle.std.proofs.lemmas.Bool.{lt-leb, le-leb}
 use Rattle.pfr_net.specs.Notation.{is_number, value, number, number_within}

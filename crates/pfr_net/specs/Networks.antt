@@ -4,11 +4,11 @@ use Rattle.pfr_net.specs.declared.address.Ipv4Address.{Ipv4Address}
 use Rattle.pfr_net.specs.declared.network.Net.{Net}
 use Rattle.pfr_net.specs.Notation.{◌>>=◌, cut_at, dotted, number_within}
 
--- an address without the bits below a prefix of so many bits; more than 32 bits count as 32
+-- an address without the bits below a prefix of `bits` bits; more than 32 bits count as 32
 unfoldable pub prefix : ℕ → ℕ → ℕ
 prefix bits address = address / 2 ^ (32 - bits) * 2 ^ (32 - bits)
 
--- a network holds an address where they agree in the bits of its prefix
+-- a network holds an address if they agree in the bits of its prefix
 abbrev pub holds : Net → Ipv4Address → Bool
 holds net a = prefix net.bits a.0 == prefix net.bits net.address.0
 

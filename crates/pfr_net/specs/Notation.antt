@@ -26,7 +26,7 @@ abbrev pub parts_at : Option ℕ → List ℕ → Option (List ℕ × List ℕ)
 parts_at None text = None
 parts_at (Some place) text = Some (take place text, drop (place + 1) text)
 
--- what stands before the first such byte and behind it, if there is one
+-- what stands before the first such byte and behind it, if the text has one
 unfoldable pub cut_at : ℕ → List ℕ → Option (List ℕ × List ℕ)
 cut_at byte text = parts_at (position (λ b. b == byte) text) text
 

@@ -34,7 +34,7 @@ timeout_of code = slice_get timeouts_by_code code
 abbrev pub seconds_of : Timeouts → Timeout → ℕ
 seconds_of timeouts timeout = slice_index timeouts.seconds (code_of timeout)
 
--- what holds where nothing is set
+-- what holds if nothing is set
 abbrev pub default_timeouts : Timeouts
 default_timeouts = record { seconds = 120 ∷ 30 ∷ 86400 ∷ 900 ∷ 45 ∷ 90 ∷ 60 ∷ 30 ∷ 60 ∷ 20 ∷ 10 ∷ 60 ∷ 30 ∷ 60 ∷ [] }
 

@@ -5,8 +5,8 @@ ghost use Rattle.pfr_net.specs.Networks as spec;
 use crate::address::Ipv4Address;
 use crate::notation::{cut, dotted, number_within};
 
-/// The network of the addresses that agree with one in their first bits. The bits of that address below
-/// those are ignored (RFC 4632, section 3.1).
+/// The network of the addresses that agree with `address` in their first `bits` bits. The other bits of `address`
+/// are ignored (RFC 4632, section 3.1).
 #[derive(Clone, Copy, Debug, PartialEq, Eq, Hash)]
 pub struct Net {
     pub address: Ipv4Address,
@@ -14,7 +14,7 @@ pub struct Net {
     pub bits: u8,
 }
 
-/// An address without the bits below a prefix of so many bits; more than 32 bits count as 32.
+/// An address without the bits below a prefix of `bits` bits; more than 32 bits count as 32.
 #[inline]
 #[tactic(auto, unfolding(crate::specs::Networks::prefix))]
 pub fn prefix(bits: u8, address: u32) -> u32
@@ -24,7 +24,7 @@ pub fn prefix(bits: u8, address: u32) -> u32
     ((u64::from(address) >> ignored) << ignored) as u32
 }
 
-/// The bits of a prefix, if a number of them is written that is at most 32.
+/// The number of bits of a prefix that is written, if it is at most 32.
 fn bits_of(text: &[u8]) -> Option<u8>
     ensures { result ≡ spec.bits_of text.now }
 {
@@ -41,7 +41,7 @@ impl Net {
     }
 
     /// The network that a text writes: `a.b.c.d/bits`, or `a.b.c.d` for a single address. Numbers may have
-    /// leading zeros. None for any other text.
+    /// leading zeros. `None` for any other text.
     #[tactic(auto, unfolding(crate::specs::Networks::net_of))]
     pub fn parse(text: &[u8]) -> Option<Net>
         ensures { result ≡ spec.net_of text.now }

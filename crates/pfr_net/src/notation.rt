@@ -15,7 +15,7 @@ fn place_of(byte: u8, text: &[u8]) -> Option<usize>
     text.iter().position(|b| *b == byte)
 }
 
-/// What stands before the first such byte and behind it, if there is one.
+/// What stands before the first `byte` and behind it, if the text has one.
 #[tactic(auto, unfolding(crate::specs::Notation::cut_at))]
 pub fn cut(byte: u8, text: &[u8]) -> Option<(&[u8], &[u8])>
     ensures { option_map (λ p. (p.0.now, p.1.now)) result ≡ spec.cut_at byte text.now }
@@ -37,7 +37,7 @@ fn are_digits(text: &[u8]) -> bool
     true
 }
 
-/// The value of decimal digits, or [`TOO_LARGE`] where it is larger.
+/// The value of decimal digits, or [`TOO_LARGE`] if it is larger.
 fn value(digits: &[u8]) -> u64
     ensures value { result ≡ spec.capped digits.now }
     ensures within { result ≤ 4294967296 }
@@ -49,8 +49,8 @@ fn value(digits: &[u8]) -> u64
     value
 }
 
-/// The number that a text of decimal digits writes, which may have leading zeros; [`TOO_LARGE`] stands for all from
-/// there on.
+/// The number that a text of decimal digits writes, which may have leading zeros. [`TOO_LARGE`] stands for itself and
+/// all larger numbers.
 #[tactic(auto, unfolding(crate::specs::Notation::number))]
 pub fn number(text: &[u8]) -> Option<u64>
     ensures { result ≡ spec.number text.now }

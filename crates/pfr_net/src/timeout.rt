@@ -60,7 +60,7 @@ impl Timeout {
         }
     }
 
-    /// The timeout of a code; none of one above 13.
+    /// The timeout of a code; `None` for a code above 13.
     pub fn of_code(code: u8) -> Option<Timeout>
         ensures timeout { result ≡ spec.timeout_of code }
         ensures code { IfSome result (λ timeout. spec.code_of timeout ≡ code) }
@@ -87,7 +87,7 @@ const TIMEOUTS: [Timeout; 14] = [
     Timeout::OtherMultiple,
 ];
 
-/// The seconds of each timeout where nothing is set, by its code: those of TCP, UDP, ICMP and other protocols in the
+/// The seconds of each timeout if nothing is set, by its code: those of TCP, UDP, ICMP and other protocols in the
 /// order of pf.conf(5).
 pub const DEFAULT_SECONDS: [u32; 14] = [
     120, 30, 86400, 900, 45, 90, 60, 30, 60, 20, 10, 60, 30, 60,
@@ -100,7 +100,7 @@ pub struct Timeouts {
 }
 
 impl Timeouts {
-    /// The seconds where nothing is set.
+    /// The seconds if nothing is set.
     pub fn new() -> Timeouts
         ensures { result ≡ spec.default_timeouts }
     {

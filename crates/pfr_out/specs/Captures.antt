@@ -10,7 +10,7 @@ use Rattle.pfr_merge.specs.MergedCaptures.{FailedGive, TextsGive}
 abbrev pub frame_in : Arrived → Frame
 frame_in a = record { place = record { 0 = a.place }; link = a.link; seconds = a.time.seconds; header = a.packet.header; bytes = a.packet.bytes }
 
--- how captures end: with a tail, or with the refusal of the one at a place
+-- how captures end: with a tail, or with the refusal of a capture and its place
 abbrev pub End : Type 0
 End = Result Tail (ℕ × CaptureError)
 
@@ -20,7 +20,8 @@ pub record CapturesGive (texts : List (List ℕ)) (frames : List Frame) (ending 
   pub give : TextsGive texts list ending
   pub frames_are : frames ≡ map frame_in list
 
--- the same where a read of the source at a place failed behind the bytes read, with all packets that come before the failure
+-- the same if a read of the source at a place failed behind the bytes read, with all packets that come before the
+-- failure
 pub record CapturesFail (reads lefts : List (List ℕ)) (place : ℕ) (frames : List Frame) : Type 0 where
   pub list : List Arrived
   pub give : FailedGive reads lefts place list

@@ -20,7 +20,7 @@ EveryStopLeavesABeginning =
     → CapturesGive texts frames ending
     → Begins told old new (replay_of (headers_of texts) run (world_of run.job frames) ending)
 
--- if a read failed, it is a beginning of what the replay of all captures writes that begin with the bytes read
+-- if a read failed, that holds for the replay of all captures that begin with the bytes read
 abbrev pub AFailedReadLeavesABeginning : Type 0
 AFailedReadLeavesABeginning =
     (run : Run) (batch : ℕ) (texts lefts : List (List ℕ)) (told : Sinks Bool)

@@ -25,8 +25,8 @@ of_output none output.Counters sinks = sinks.counters
 of_output none output.States sinks = sinks.states
 of_output none output.Messages sinks = sinks.messages
 
--- The order in which the outputs of a piece are written. A batch adds nothing to counters and states, the end of a run nothing to
--- verdicts and packets.
+-- The order in which the outputs of a piece are written. A batch adds nothing to counters and states, the end of a run
+-- nothing to verdicts and packets.
 abbrev pub turn : Output → ℕ
 turn output.Messages = 0
 turn output.Counters = 1
@@ -83,7 +83,7 @@ emitted_alone emitted messages = batch_alone emitted.verdicts.items (packets_of 
 abbrev pub last_alone : Ending → List ℕ → OutputTexts
 last_alone ending message = ending_alone ending.counters.items ending.states.items message
 
--- each of the longer texts is the shorter one and its text of a piece
+-- each of the longer texts is the shorter one with its text of a piece behind it
 abbrev pub Extends : (shorter longer piece : OutputTexts) → Type 0
 Extends shorter longer piece = (o : Output) → output_text o longer ≡ output_text o shorter ++ output_text o piece
 
@@ -103,8 +103,8 @@ Grew told old new piece = (o : Output) → IsTrue (of_output false o told) → G
 abbrev pub Untouched : (told : Sinks Bool) → (old new : Outputs) → Type 0
 Untouched told old new = (o : Output) → IsTrue (of_output false o told) → of_output [] o new ≡ of_output [] o old
 
--- An output took a part of its text of a piece that lacks at least its last byte; those before it took theirs, and those after it
--- nothing. Each of these facts holds if the output that it speaks of tells its bytes.
+-- An output took a part of its text of a piece, without at least the last byte. The outputs before it took their texts,
+-- and those after it nothing. Each of these facts holds if the output that it speaks of tells its bytes.
 pub record PartWritten (told : Sinks Bool) (old new : Outputs) (piece : OutputTexts) (output : Output) : Type 0 where
   pub part : IsTrue (of_output false output told) → GrewByPart (of_output [] output old) (of_output [] output new) (output_text output piece)
   pub before : (o : Output) → IsTrue (of_output false o told) → turn o < turn output → GrewAt o old new piece

@@ -13,8 +13,8 @@ abbrev pub EachGrew : {S : Type 0} → (told : S → Bool) → (written : S → 
 EachGrew told written old new texts =
     (place : ℕ) → TellsAt (map told old) place → by_place (map written new) place ≡ by_place (map written old) place ++ texts place
 
--- A sink took a part of its text that lacks at least its last byte; those before it took theirs, and those after it nothing. Each of
--- these facts holds if the sink that it speaks of tells its bytes.
+-- A sink took a part of its text, without at least the last byte. The sinks before it took their texts, and those after
+-- it nothing. Each of these facts holds if the sink that it speaks of tells its bytes.
 pub record OneTookPart {S : Type 0} (told : S → Bool) (written : S → List ℕ) (old new : List S) (texts : ByPlace) (at : ℕ) : Type 0 where
   pub part : TellsAt (map told old) at → GrewByPart (by_place (map written old) at) (by_place (map written new) at) (texts at)
   pub before : (place : ℕ) → TellsAt (map told old) place → place < at → by_place (map written new) place ≡ by_place (map written old) place ++ texts place

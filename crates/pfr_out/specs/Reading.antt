@@ -44,7 +44,7 @@ abbrev pub BatchFails : Option End → (olds news : List ℕ) → Type 0
 BatchFails (Some (Err stop)) olds news = ReadingFails olds news stop
 BatchFails end olds news = news ≡ olds
 
--- a batch of at most so many records was read of the captures of sources, and ended so
+-- a batch of at most `most` records was read of the captures of sources, and ended with `end`
 pub record ReadsBatch {R : Type 0} (tells : R → Bool) (unread : R → List ℕ) (failed : R → ℕ)
     (old new : List Waiting) (sources sources' : List R) (most : ℕ) (records : List Record) (end : Option End) : Type 0 where
   pub told : map tells sources' ≡ map tells sources

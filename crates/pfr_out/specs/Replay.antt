@@ -74,9 +74,9 @@ pub record Replayed (run : Run) (texts : List (List ℕ)) (told : Sinks Bool) (o
 
 -- ---- stops
 
--- The headers of the captures were read and are accepted, and this is a fact of the headers and the packets of all captures that begin
--- with the bytes that were read of the sources, and of their end. Of several captures, one of which the end was read, or a record that
--- is too long, has no more than its source has.
+-- The headers of the captures were read and are accepted. `P` holds of the headers, the packets and the end of all
+-- captures that begin with the bytes that were read of the sources. If there are several captures, one whose end was
+-- read, or a record that is too long, has no more than its source has.
 pub record OfEvery (texts lefts : List (List ℕ)) (P : List (List ℕ) → List Frame → End → Type 0) : Type 0 where
   pub reads : List (List ℕ)
   pub are : texts ≡ joined reads lefts
@@ -100,8 +100,9 @@ pub record HoldsPartOfHeaders (told : Sinks Bool) (old new : Outputs) (output : 
   pub none : committed ≡ 0
   pub part : PartWritten told old new (headers_alone headers) output
 
--- The outputs hold what the first `committed` packets write, a number of whole batches, and a part of what the next ones write, at
--- most a batch of them: one output took a part that lacks at least its last byte, and those after it took nothing.
+-- The outputs hold what the first `committed` packets write, a number of whole batches, and a part of what the next
+-- ones write, at most a batch of them. One output took a part without at least the last byte, and those after it took
+-- nothing.
 pub record HoldsPartOfBatch (run : Run) (batch : ℕ) (told : Sinks Bool) (old new : Outputs) (output : Output) (committed : ℕ) (headers : List (List ℕ)) (frames : List Frame) : Type 0 where
   pub next : ℕ
   pub at_most : next ≤ committed + batch
@@ -124,8 +125,8 @@ pub record Unwritten (told : Sinks Bool) (old new : Outputs) (committed : ℕ) :
   pub none : committed ≡ 0
   pub same : Untouched told old new
 
--- A read of the source at a place failed. The packets committed are just those that come before the failure, all captures that begin
--- with the bytes read begin with them, and the outputs hold just what they write.
+-- A read of the source at a place failed. The packets committed are just those that come before the failure, all
+-- captures that begin with the bytes read begin with them, and the outputs hold just what they write.
 pub record HoldsAllRead (run : Run) (texts lefts : List (List ℕ)) (told : Sinks Bool) (old new : Outputs) (place committed : ℕ) : Type 0 where
   pub frames : List Frame
   pub reads : List (List ℕ)
@@ -159,8 +160,8 @@ Refused run texts told old new place capture.Memory committed = ⊥
 Refused run texts told old new place (capture.RecordTooLong asked) committed = HoldsAll run texts told old new (Err (place, capture.RecordTooLong asked)) committed
 Refused run texts told old new place e committed = IsRefusedAt texts place e × (committed ≡ 0) × Untouched told old new
 
--- what a refusal of memory says: nothing was written, or whole batches were, or all packets that came before a failed read or before
--- the end of the captures
+-- what a refusal of memory says: nothing was written, or whole batches were, or all packets that came before a failed
+-- read or before the end of the captures
 abbrev pub Wanting : Run → ℕ → (texts lefts : List (List ℕ)) → (told : Sinks Bool) → (old new : Outputs) → ℕ → Type 0
 Wanting run batch texts lefts told old new committed =
     Unwritten told old new committed
@@ -198,8 +199,8 @@ committed_of (stop.Memory committed) = committed
 
 -- ---- failures of devices
 
--- A device stops a run only if its count of failures rose, and no other sink's rose then. If packets can't be written or taken, a
--- source may have failed just before, after those packets.
+-- A device stops a run only if its count of failures rose, and no other sink's rose then. If packets can't be written
+-- or taken, a source may have failed just before, after those packets.
 abbrev pub StopFails : Stop → (sources sources' : List ℕ) → (sinks sinks' : Sinks ℕ) → Type 0
 StopFails (stop.Read place committed) sources sources' sinks sinks' = OneFailed place sources sources' × (sinks' ≡ sinks)
 StopFails (stop.Write output committed) sources sources' sinks sinks' = RoseAt output sinks sinks'
@@ -217,8 +218,8 @@ NoneFails failures sink_failures sources sources' sinks sinks' = (map failures s
 
 -- ---- a capture that was refused, whatever the sources tell
 
--- A failed read and want of memory stop a run by their own names. A refusal of the header comes before anything is written. Of a record
--- that is too long nothing more is said: packets before it may be written.
+-- A failed read and want of memory stop a run by their own names. A refusal of the header comes before anything is
+-- written. Of a record that is too long nothing more is said: packets before it may be written.
 abbrev pub RefusedUntold : CaptureError → ℕ → (told : Sinks Bool) → (old new : Outputs) → Type 0
 RefusedUntold capture.Read committed told old new = ⊥
 RefusedUntold capture.Memory committed told old new = ⊥
@@ -263,8 +264,8 @@ run_settings settings = record { batch = settings.batch; workers = settings.work
 abbrev pub run_with : RunJob → RunSettings → Run
 run_with job settings = record { job = job; form = settings.form }
 
--- What each stop says if the sources tell their bytes, and if they don't. A fault of the ruleset leaves the sources unread and the
--- outputs as they were.
+-- What each stop says if the sources tell their bytes, and if they don't. A fault of the ruleset leaves the sources
+-- unread and the outputs as they were.
 abbrev pub StopOf : (text seed : List ℕ) → Settings → (tells : List Bool) → (befores lefts : List (List ℕ)) → (told : Sinks Bool) → (old new : Outputs) → Stop → Type 0
 StopOf text seed settings tells befores lefts told old new (stop.Ruleset fault) = IsFaultOf text settings fault × (AllTold tells → lefts ≡ befores) × Untouched told old new
 StopOf text seed settings tells befores lefts told old new s =

@@ -34,7 +34,7 @@ fn put_packet(source: Ipv4Address, message: &Message, text: &mut Vec<u8>) -> Res
     Ok(())
 }
 
-/// The address from which a standby is told: that of the first interface of a job, or else 0.0.0.0.
+/// The address from which a standby is told: the address of the job's first interface, or 0.0.0.0 if it has none.
 pub(crate) fn source_of(job: &Job) -> Ipv4Address
     ensures { result ≡ spec.source_of job.now }
 {

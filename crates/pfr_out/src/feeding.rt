@@ -1,4 +1,4 @@
-//! The batches of captures, and the way of what they add into the outputs.
+//! The batches of captures, and how what they add is written into the outputs.
 ghost use Rattle.std.specs.Prelude.{◌≡◌, ◌≤◌, ◌+◌, min, length, None, Some, IfErr, IfSome, IsSome, OnOk};
 ghost use Rattle.pfr_commit.specs.Books.{StandsAt, job_of};
 ghost use Rattle.pfr_commit.specs.World.{opening};
@@ -83,7 +83,7 @@ impl<R: Source, S: Sink> Feeding<'_, R, S> {
         }
     }
 
-    /// How many records there are up to the end of the next batch. The last batch may have less than the most.
+    /// How many records there are up to the end of the next batch. The last batch may have fewer than `most`.
     fn behind_next(&self) -> u64
         ensures { result ≡ min (self.now.committed + self.now.most) self.now.given }
     {
@@ -164,8 +164,9 @@ impl<'a, R: Source, S: Sink> Feeding<'a, R, S> {
         self
     }
 
-    /// Has a book take the packets of the captures, and writes what they add, a batch at a time. If there are `workers`, they evaluate
-    /// the packets of the next batches ahead. `last` is that book then, unless memory was refused.
+    /// Has a book take the packets of the captures, and writes what they add, a batch at a time. If there are
+    /// `workers`, they evaluate the packets of the next batches ahead. `last` is the book at the end, unless memory was
+    /// refused.
     pub(crate) fn run<
         J: OfRun + Send + Sync + 'static,
         K: Naming + Send + Sync + 'static,

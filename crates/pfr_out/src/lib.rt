@@ -1,12 +1,13 @@
-//! Captures through a ruleset: the lines that say what becomes of each packet, the packets that aren't blocked, the counters
-//! of the rules, the states that are left, and the messages by which another firewall is told of the states.
+//! Captures through a ruleset: the lines that say what becomes of each packet, the packets that aren't blocked, the
+//! counters of the rules, the states that are left, and the messages by which another firewall is told of the states.
 //!
-//! [`replay`] is the whole run, over any sources and any sinks. Its contract is the theorem of this crate, for all sizes of a batch,
-//! numbers of workers and orders of their results. After a run to the end the sinks have grown by exactly what one thread writes
-//! that takes the packets in the order of the captures. If a device fails, they have grown by a beginning of that, which holds at
-//! least the packets that the stop reports as committed.
+//! [`replay`] is the whole run, over any sources and any sinks. Its contract is the theorem of this crate, for all
+//! sizes of a batch, numbers of workers and orders of their results. After a run to the end the sinks have grown by
+//! exactly what one thread writes that takes the packets in the order of the captures. If a device fails, they have
+//! grown by a beginning of that, which holds at least the packets that the stop reports as committed.
 //!
-//! [`standby`] reads the messages that a run writes, and writes the states that who reads them holds.
+//! [`standby`] reads the messages that a run writes, and writes the states that a reader of these messages holds. The
+//! commands use this crate.
 #![tactic(auto)]
 
 mod channel;

@@ -8,7 +8,7 @@ use pfr_capture::{Sink, write_all};
 use std::convert::AsSlice;
 use std::marker::Model;
 
-/// Where the packets go: a sink for each capture, by its place. Contracts see the list of them.
+/// The sinks of the packets, each at the place of its capture. Contracts see the list of them.
 #[derive(Drop)]
 pub struct PacketSinks<S> {
     sinks: Vec<S>,
@@ -22,8 +22,8 @@ impl<S> Model for PacketSinks<S> {
     ghost view = { λ a. a.sinks.items };
 }
 
-/// Writes each text to the sink at its place, in the order of the places. It returns the place of the sink that failed. A text behind
-/// the last sink is dropped.
+/// Writes each text to the sink at its place, in the order of the places. It returns the place of the sink that failed.
+/// A text behind the last sink is dropped.
 fn write_each<S: Sink, T: AsSlice<u8>>(sinks: &mut [S], texts: &[T]) -> Result<(), usize>
     ensures told { map S.told sinks.new ≡ map S.told sinks.old }
     ensures ok { OnOk result (EachGrew S.told S.written sinks.old sinks.new (by_place (map T.items texts.now))) }

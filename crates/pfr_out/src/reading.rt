@@ -16,8 +16,8 @@ pub fn give_back(merge: &mut Merge, packets: Vec<(Record, View)>)
     }
 }
 
-/// Reads a batch of at most `most` records. It returns how the reading ends, if it does: at the end of the captures, or with the
-/// refusal of the one at a place.
+/// Reads a batch of at most `most` records. It returns how the reading ends, if it does: at the end of the captures, or
+/// with the refusal of a capture and its place.
 pub(crate) fn read_batch<R: Source>(
     merge: &mut Merge,
     sources: &mut [R],

@@ -94,8 +94,8 @@ fn replay_captures<H: AllocGlobal + Threads + Wait + Sync, R: Source, S: Sink, G
     feeding.finish(last)
 }
 
-/// Replays captures by a job whose ruleset was read before: what [`replay`] does after it has read its text. No stop is for the
-/// ruleset.
+/// Replays captures by a job whose ruleset was read before: what [`replay`] does after it has read its text. No stop is
+/// for the ruleset.
 ///
 /// It is public for a program that reports a fault of the ruleset before it opens the captures.
 pub fn replay_job<H: AllocGlobal + Threads + Wait + Sync, R: Source, S: Sink, G: Gate>(
@@ -131,32 +131,33 @@ pub fn replay_job<H: AllocGlobal + Threads + Wait + Sync, R: Source, S: Sink, G:
     replay_captures(rt, book, merge, sources, settings, channel, sinks, gate)
 }
 
-/// Replays captures through a ruleset, as the firewall's interfaces would see their packets. There is a capture for each of 1 to 8
-/// interfaces, at its place, and packets are taken in the order of time over all captures, a batch at a time. A packet whose source
-/// lies in an inside network goes out.
+/// Replays captures through a ruleset, as the firewall's interfaces would see their packets. There is a capture for
+/// each of 1 to 8 interfaces, at its place, and packets are taken in the order of time over all captures, a batch at a
+/// time. A packet whose source lies in an inside network goes out.
 ///
-/// Of the next packets of all captures the earliest is taken, and of equally early ones that of the first capture. Those of one
-/// capture stay in their order. A capture that is cut has no more packets.
+/// Of the next packets of all captures the earliest is taken, and of equally early ones the one of the first capture.
+/// The packets of one capture stay in their order. A capture that is cut has no more packets.
 ///
-/// If there are workers, they evaluate the packets of the next batches ahead, and the gate is told of their turns. What is written
-/// depends on neither: it is what one thread writes that takes the packets one after the other. With workers the sources are read at
-/// most three batches ahead of what is written.
+/// If there are workers, they evaluate the packets of the next batches ahead, and the gate is told of their turns. What
+/// is written depends on neither: it is what one thread writes that takes the packets one after the other. With workers
+/// the sources are read at most three batches ahead of what is written.
 ///
-/// The text is read first, and a fault of it leaves the sources unread. Then all headers are read, in the order of the captures, and
-/// each goes to the packets of its place, in a write of its own. Then each batch adds the messages that it closes, a line for each
-/// packet to the verdicts, and the packets that aren't blocked to the packets of their places, in one write each. At the end of the
-/// captures the message that is open is written, and then the counters and the states. A read that fails, and a record that is too
-/// long, end the run as soon as the packets before it are written: behind the last whole record of its capture. That message, the
-/// counters and the states are left out then. An empty text isn't written to the sink of messages, so a run in form None doesn't
-/// touch it.
+/// The text is read first, and a fault of it leaves the sources unread. Then all headers are read, in the order of the
+/// captures, and each goes to the packets of its place, in a write of its own. Then each batch adds the messages that
+/// it closes, a line for each packet to the verdicts, and the packets that aren't blocked to the packets of their
+/// places, in one write each. At the end of the captures the open message is written, and then the counters and the
+/// states. A read that fails, and a record that is too long, end the run as soon as the packets before it are written:
+/// behind the last whole record of its capture. The open message, the counters and the states are left out then. An
+/// empty text isn't written to the sink of messages, so a run in form None doesn't touch it.
 ///
-/// Ok says that the captures were read to their end; the sinks have then grown by just what their packets write, one after the
-/// other. At every stop they have grown by a beginning of that, and hold all that the packets write that the stop reports as
-/// committed.
+/// Ok says that the captures were read to their end; the sinks have then grown by just what their packets write, one
+/// after the other. At every stop they have grown by a beginning of that, and hold all that the packets write that the
+/// stop reports as committed.
 ///
-/// Whatever the devices, Ok comes only if the text means a ruleset, and a stop for the ruleset only with the text's first
-/// fault, or for want of memory. A refusal of a capture's header comes before anything is written. What else is said of the
-/// captures holds if all sources tell their bytes, and what is said of an output if its sink tells its bytes.
+/// Whatever the devices, Ok comes only if the text means a ruleset, and a stop for the ruleset only with the text's
+/// first fault, or for want of memory. A refusal of a capture's header comes before anything is written. What else is
+/// said of the captures holds if all sources tell their bytes, and what is said of an output if its sink tells its
+/// bytes.
 pub fn replay<H: AllocGlobal + Threads + Wait + Sync, R: Source, S: Sink, G: Gate>(
     rt: &H,
     sources: &mut Sources<R>,

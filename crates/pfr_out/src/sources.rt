@@ -11,7 +11,7 @@ use pfr_merge::Merge;
 use std::alloc::Global;
 use std::marker::Model;
 
-/// Where the captures come from: a source for each, by its place. Contracts see the list of them.
+/// The sources of the captures, each at the place of its capture. Contracts see the list of them.
 #[derive(Drop)]
 pub struct Sources<R> {
     sources: Vec<R>,
@@ -49,7 +49,8 @@ impl<R: Source> Sources<R> {
         self.sources.iter().all(|source| source.tells())
     }
 
-    /// Opens their captures, in the order of the places. The first one that is refused, and its place, end it.
+    /// Opens their captures, in the order of the places. It ends at the first one that is refused, and answers its
+    /// place and the refusal.
     pub fn open(&mut self, alloc: Global) -> Result<Merge, (usize, CaptureError)>
         ensures told { map R.told self.new ≡ map R.told self.old }
         ensures starts { IfOk result (λ merge. NoneRefused merge × HasPassedOn 0 merge × (length merge ≡ length self.old)) }

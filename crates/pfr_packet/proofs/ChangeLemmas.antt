@@ -164,7 +164,7 @@ making_stands : (number : ℕ) (clock : Clock) (place : InterfacePlace) (table :
 making_stands number clock place table packet state outcome new =
     keys_stand number clock place table packet state outcome new (found_in table Wire state.wire state.rules.binding) (found_in table Stack state.stack state.rules.binding) refl refl
 
--- where the packet passes so far
+-- if the packet passes so far
 passing_stands : (job : RunJob) (number : ℕ) (clock : Clock) (place : InterfacePlace) (table : StateTable) (packet : Packet) (direction : Direction) (passage : Passage) (outcome : Outcome) (rules : StateRules)
     → Stands number clock place table outcome → (test : Bool) → lets_pass outcome.verdict ≡ test
     → Stands number clock place table (outcome_of table (cond test (making packet (made (record { 0 = number }) packet direction place passage.wire passage.stack rules clock (timeouts_of job)) outcome) (done outcome)))

@@ -58,7 +58,7 @@ to_the_end table steps rest outcome asked after gone kept goes = record {
   asked_all = rw gone.questions_are (All-append after gone.before (questions_of table rest) (All-weaker asked after kept gone.before gone.asked_before) goes.asked_all);
 }
 
--- ---- what is asked of the filter
+-- ---- questions to the filter
 
 -- unless the packet isn't filtered
 pass_goes : (table : StateTable) (rules : Ruleset) (name : IfName) (packet : Packet) (direction : Direction) (next : FilterAnswer → Plan) (outcome : Outcome) (asked after : Question → Type 0) (passes : Bool)

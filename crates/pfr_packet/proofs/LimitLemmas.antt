@@ -100,7 +100,7 @@ judged_names : (rules : Ruleset) (name : IfName) (table : StateTable) (direction
     → (judged rules (answer_for rules name table direction packet passage) direction packet passage visits).rule ≡ (answer_for rules name table direction packet passage).decision.rule
 judged_names rules name table direction packet passage visits = names_by rules direction packet passage visits (filter_answer rules name table (behind direction passage packet) direction) passage.passes
 
--- where one is named the filter was asked
+-- if one is named the filter was asked
 asked_by : (answer : FilterAnswer) (by : RuleNumber) (passes : Bool) → (cond passes no_answer answer).decision.rule ≡ Some by → answer.decision.rule ≡ Some by
 asked_by answer by true is = absurd (cc is)
 asked_by answer by false is = is

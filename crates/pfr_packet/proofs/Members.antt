@@ -43,7 +43,7 @@ found_there p (x ∷ xs) y is = elim (cases_Bool (p x)) [
   | inr not_it ↦ there x xs y (found_there p xs y (rw not_it at is))
 ]
 
--- where none is found the first element isn't it, and none of the others
+-- if none is found the first element isn't it, and none of the others
 pub not_first : {X : Type 0} (p : X → Bool) (x : X) (xs : List X) → find p (x ∷ xs) ≡ None → p x ≡ false
 not_first p x xs is = elim (cases_Bool (p x)) [
   | inl it_is ↦ (let h : Some x ≡ None = rw it_is at is in absurd (cc h))

@@ -103,7 +103,7 @@ going_way job number clock place table packet direction P visits passage h =
 
 -- ---- up to the passage
 
--- what holds whichever port is picked, and where none is
+-- what holds whichever port is picked, and if none is
 any_pick : (table : StateTable) (wire : ℕ → Key) (next : Option Key → Plan) (P : Outcome → Type 0) → ((found : Option Key) → P (outcome_of table (next found)))
     → (ports : List ℕ) → P (outcome_of table (picking wire next ports))
 any_pick table wire next P h [] = h None

@@ -138,7 +138,7 @@ same_end a b same =
     let parts = and_parts _ _ same in
     end_is a b (ap address_of (eqb-true a.address.0 b.address.0 parts.0)) (ap port_of (eqb-true a.port.0 b.port.0 parts.1))
 
--- where the ends inside are one, those outside are
+-- if the ends inside are the same, those outside are
 same_outside : (t : Transport) (wire stack : Key) → AreKeys t wire stack → wire.inside ≡ stack.inside → wire.outside ≡ stack.outside
 same_outside transport.Fragment wire stack are same = are.outside
 same_outside (transport.Tcp header) wire stack are same = are.outside

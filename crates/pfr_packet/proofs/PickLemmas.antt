@@ -95,7 +95,7 @@ pub ok_then : {A E : Type 0} {P Q : A → Type 0} → ((a : A) → P a → Q a) 
 ok_then f (Ok a) h = f a h
 ok_then f (Err e) h = h
 
--- the same of what is so where there is an answer
+-- the same of what is so if there is an answer
 pub done_then : {A E : Type 0} {P Q : Type 0} → (P → Q) → (r : Result A E) → OnOk r P → OnOk r Q
 done_then f (Ok a) h = f h
 done_then f (Err e) h = h

@@ -50,7 +50,7 @@ pub interfaces_same : (xs : List Interface) → pointwise interface_ghosts.eq xs
 interfaces_same [] = refl
 interfaces_same (x ∷ xs) = and_from (interface_ghosts.eq x x) (pointwise interface_ghosts.eq xs xs) (interface_same x) (interfaces_same xs)
 
--- ---- link-level addresses, where they are known
+-- ---- link-level addresses, if they are known
 
 same_value : (x y : EthernetAddress) → address_ghosts.eq x y ≡ true → x ≡ y
 same_value x y h = Prim.search rules

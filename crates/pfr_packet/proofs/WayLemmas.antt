@@ -190,7 +190,7 @@ no_state_of job number clock place packet table opens =
       has_no_port = λ rule visits first. refl;
     })
 
--- where a state is found no rule is visited
+-- if a state is found no rule is visited
 pub none_visited_of : (job : RunJob) (number : ℕ) (clock : Clock) (place : InterfacePlace) (packet : Packet) (table : StateTable) (key : Key) (state : State)
     → (subject_of (direction_of job place packet) packet ≡ Embedded key) ⊎ (subject_of (direction_of job place packet) packet ≡ Connection key)
     → found_in (purged_at clock table) (looked_up_on job.tap (direction_of job place packet)) key (binding.To place) ≡ Some state → (step_of job number clock place (Ipv4 packet) table).visited ≡ none_visited
@@ -214,7 +214,7 @@ none_visited_of job number clock place packet table key state subject found =
     tracked_visits direction packet state touch.Mismatch = refl
     tracked_visits direction packet state touch.Removed = refl
 
--- a packet is blocked for want of room only where there is none
+-- a packet is blocked for want of room only if there is none
 abbrev pub LacksRoom : StateTable → Outcome → Type 0
 LacksRoom table outcome = outcome.reason ≡ reason.StateLimit → has_room_in table ≡ false
 
@@ -318,7 +318,7 @@ tracked_leave table rules direction packet state (touch.Touched next) is_there =
 tracked_leave table rules direction packet state touch.Mismatch is_there = λ options passes skipped. absurd (cc passes)
 tracked_leave table rules direction packet state touch.Removed is_there = λ options passes skipped. absurd (cc passes)
 
--- a packet that isn't filtered has no IP options where it passes
+-- a packet that isn't filtered has no IP options if it passes
 no_options : (options : Bool) → (options && not false) ≡ false → options ≡ true → ⊥
 no_options true none is = cc none
 no_options false none is = cc is

@@ -1,5 +1,6 @@
--- Words of the laws on connections: where a packet comes from and where it goes, which keys the state has that it makes, and what
--- becomes of an answer to it (pf.conf(5), "Translation": packets of a state's connection are translated as its first one).
+-- Words of the laws on connections: where a packet comes from and where it goes, the keys of the state that it makes,
+-- and what becomes of an answer to it (pf.conf(5), "Translation": packets of a state's connection are translated as its
+-- first one).
 use Rattle.std.specs.Prelude.{◌≡◌, ℕ, true, false, Option, Some, None, ⊤}
 use Rattle.std.specs.List.{Contains}
 use Rattle.pfr_net.specs.declared.direction.Direction.{Direction}
@@ -35,8 +36,9 @@ use Rattle.pfr_packet.specs.Verdicts.{lets_pass}
 
 -- ---- the ends of a packet
 
--- What stands at an end of a packet, as connections are known by it: its address, with the port of TCP or UDP, an echo's
--- identifier, or 0 for a protocol without ports. A part of a packet and any other ICMP message belong to no connection.
+-- What stands at an end of a packet, as connections are known by it: its address, with the port of TCP or UDP, an
+-- echo's identifier, or 0 for a protocol without ports. A part of a packet and any other ICMP message belong to no
+-- connection.
 abbrev pub HasEndInMessage : Packet → End → Endpoint → IcmpMessage → Type 0
 HasEndInMessage packet end at (message.Echo identifier) = at ≡ record { address = of_end end packet.source packet.destination; port = record { 0 = identifier } }
 HasEndInMessage packet end at (message.Error inner) = ⊥
@@ -62,7 +64,7 @@ sent_on packet (Some change) = translated change.end change.to change.packet
 
 -- ---- the packet that makes a state
 
--- one that comes in goes from the end outside to the one inside, one that goes out the other way
+-- a packet that comes in goes from the end outside to the one inside, a packet that goes out the other way
 abbrev pub GoesBy : Direction → Packet → Key → Type 0
 GoesBy In packet key = GoesFrom packet key.outside key.inside
 GoesBy Out packet key = GoesFrom packet key.inside key.outside
@@ -77,8 +79,8 @@ abbrev pub SentBy : Direction → Packet → State → Type 0
 SentBy In sent state = GoesBy In sent state.stack
 SentBy Out sent state = GoesBy Out sent state.wire
 
--- A state knows the connection of the packet that made it, on both sides of the firewall: the captured packet goes by the key on the
--- packet's own side, the packet as it is sent on by the one on the other side.
+-- A state knows the connection of the packet that made it, on both sides of the firewall: the captured packet goes by
+-- the key on the packet's own side, the packet as it is sent on by the key on the other side.
 pub record KnowsBothSides (direction : Direction) (packet sent : Packet) (state : State) : Type 0 where
   pub direction_is : state.direction ≡ direction
   pub wire_protocol : state.wire.protocol ≡ packet.protocol
@@ -105,7 +107,7 @@ pub record IsAnswerTo (sent answer : Packet) : Type 0 where
   pub was_sent : GoesFrom sent from to
   pub comes_back : GoesFrom answer to from
 
--- An answer finds the state. With what the state writes into it, it goes back to the one who sent the packet.
+-- An answer finds the state. With what the state writes into it, it goes back to the sender of the packet.
 pub record GoesBack (direction : Direction) (packet answer : Packet) (state : State) : Type 0 where
   pub key : Key
   pub looked_up : subject_of (opposite direction) answer ≡ Connection key
@@ -119,14 +121,14 @@ pub record IsLater (state later : State) : Type 0 where
   pub stack_is : later.stack ≡ state.stack
   pub direction_is : later.direction ≡ state.direction
 
--- what the answer comes to: it names the state, and if it passes it goes back to the one who sent the packet
+-- what the answer comes to: it names the state, and if it passes it goes back to the sender of the packet
 pub record IsBroughtBack (packet answer : Packet) (state : State) (outcome : Outcome) : Type 0 where
   pub named : outcome.state ≡ Some state.number
   pub goes_back : (from to : Endpoint) → lets_pass outcome.verdict ≡ true → GoesFrom packet from to → GoesFrom (sent_on answer outcome.bytes) to from
 
 -- ---- what the laws say
 
--- the captured packet goes by the state's key on its own side, the packet that is sent on by the one on the other side
+-- the captured packet goes by the state's key on its own side, the packet that is sent on by the key on the other side
 abbrev pub StateKnowsBothSides : Type 0
 StateKnowsBothSides =
     (job : RunJob) (number : ℕ) (clock : Clock) (place : InterfacePlace) (packet : Packet) (table : StateTable) (state : State)
@@ -141,8 +143,8 @@ AnswersGoBack =
     → IsAnswerTo (sent_on packet (step_of job number clock place (Ipv4 packet) table).bytes) answer
     → GoesBack (direction_of job place packet) packet answer state
 
--- and so it is evaluated on each interface to which the state is bound and which is filtered as the packet's own is, over each
--- later table in which the state still lives, if it isn't shown behind its translation
+-- and so it is evaluated on each interface to which the state is bound and which is filtered as the packet's own is,
+-- over each later table in which the state still lives, if it isn't shown behind its translation
 abbrev pub AnswersAreBroughtBack : Type 0
 AnswersAreBroughtBack =
     (job : RunJob) (number next : ℕ) (clock now : Clock) (place back : InterfacePlace) (packet answer : Packet) (table after : StateTable) (state later : State)

@@ -30,7 +30,7 @@ abbrev pub reason_of : Option RuleNumber → Reason
 reason_of (Some number) = reason.Rule
 reason_of None = reason.Default
 
--- ---- what the rule that decides says beyond its verdict
+-- ---- what the deciding rule says beyond its verdict
 
 abbrev pub silent : Conduct
 silent = record { allows_options = false; state = None }
@@ -39,7 +39,7 @@ abbrev pub conduct_at : Option FlatRule → Conduct
 conduct_at None = silent
 conduct_at (Some rule) = record { allows_options = rule.allow_opts; state = rule.state }
 
--- without a rule that decides IP options aren't allowed, and no state is kept
+-- without a deciding rule IP options aren't allowed, and no state is kept
 abbrev pub conduct_of : List FlatRule → Option RuleNumber → Conduct
 conduct_of rules None = silent
 conduct_of rules (Some number) = conduct_at (slice_get rules number.0)
@@ -59,7 +59,8 @@ decided direction decision visits = record {
   change = None;
 }
 
--- what a packet comes to by the filter's answer: one with IP options that the deciding rule doesn't allow doesn't pass
+-- what a packet comes to by the filter's answer: a packet with IP options that the deciding rule doesn't allow doesn't
+-- pass
 unfoldable pub filtered : Ruleset → FilterAnswer → Packet → Direction → Outcome
 filtered rules answer packet direction =
     without_leave packet (conduct_of rules.filter.rules answer.decision.rule).allows_options (decided direction answer.decision answer.visits)
@@ -72,7 +73,7 @@ allows_options rules answer = (conduct_of rules.filter.rules answer.decision.rul
 unfoldable pub kept : Ruleset → FilterAnswer → Option StateRule
 kept rules answer = (conduct_of rules.filter.rules answer.decision.rule).state
 
--- all three for a packet on the interface of a name, where a table says which rules have room
+-- all three for a packet on the interface of a name, over a table that says which rules have room
 abbrev pub filtered_over : Ruleset → IfName → StateTable → Packet → Direction → Outcome
 filtered_over rules name table packet direction = filtered rules (filter_answer rules name table packet direction) packet direction
 

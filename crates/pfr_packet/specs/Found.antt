@@ -14,7 +14,7 @@ use Rattle.pfr_packet.specs.declared.verdict.Verdict.TheVariants.{Pass, Block}
 use Rattle.pfr_packet.specs.Keys.{written_by}
 use Rattle.pfr_packet.specs.Outcomes.{by_state, without_leave}
 
--- a packet that passes by a state. Its IP options have to be allowed, and else nothing changes.
+-- a packet that passes by a state; its IP options must be allowed, or else nothing changes
 abbrev pub passed : Direction → Packet → State → Reason → Option TableChange → Outcome
 passed direction packet state why change =
     without_leave packet state.rules.allows_options (record (by_state direction state Pass why) { bytes = written_by direction packet state.wire state.stack; change = change })

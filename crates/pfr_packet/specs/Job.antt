@@ -1,4 +1,4 @@
--- What packets are evaluated by.
+-- The job of a run: what its packets are evaluated by.
 use Rattle.std.specs.Prelude.{◌≡◌, ℕ, Bool, not, ◌&&◌, if◌then◌else◌, nat_lt, List, [], Option, Some, None}
 use Rattle.std.specs.List.{list_any, slice_get}
 use Rattle.pfr_net.specs.declared.address.Ipv4Address.{Ipv4Address}
@@ -24,17 +24,17 @@ use Rattle.pfr_criteria.specs.Packets.{is_named}
 pub record RunJob : Type 0 where
   pub text : List ℕ
   pub interfaces : List Interface
-  -- the networks whose packets go out, and those among them whose packets don't
+  -- the networks whose packets go out, and those among them whose packets come in all the same
   pub inside : List Net
   pub excepted : List Net
-  -- the link-level addresses of the interfaces by their places, where they are known
+  -- the link-level addresses of the interfaces by their places, if they are known
   pub link_addresses : List (Option EthernetAddress)
   pub tap : Tap
   pub seed : List ℕ
   pub rules : Ruleset
 
--- a job of which nothing more is said: no network is excepted, no link-level address is known, and packets are captured on the
--- side of the stack
+-- a job with defaults: no network is excepted, no link-level address is known, and packets are captured on the side of
+-- the stack
 pub record HasDefaults (job : RunJob) : Type 0 where
   pub excepted_is : job.excepted ≡ []
   pub link_addresses_is : job.link_addresses ≡ []
@@ -75,7 +75,7 @@ known_address (Some address) = address
 abbrev pub link_address_at : RunJob → InterfacePlace → Option EthernetAddress
 link_address_at job place = known_address (slice_get job.link_addresses place.0)
 
--- by the sender of its frame, if the interface's own address is known, and else by its source
+-- by the sender of its frame if the interface's own address is known, else by its source
 abbrev pub direction_by : RunJob → Packet → Option EthernetAddress → Direction
 direction_by job packet (Some address) = direction_from address packet
 direction_by job packet None = direction_in job packet

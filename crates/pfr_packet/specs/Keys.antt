@@ -1,4 +1,4 @@
--- What packets are looked up by, and what is written into those whose connection is translated.
+-- The keys by which packets are looked up, and what is written into packets whose connection is translated.
 use Rattle.std.specs.Prelude.{if◌then◌else◌, Option, Some, None}
 use Rattle.pfr_net.specs.declared.address.Ipv4Address.{Ipv4Address}
 use Rattle.pfr_net.specs.declared.direction.Direction.{Direction}
@@ -22,12 +22,12 @@ use Rattle.pfr_states.specs.States.{is_same_end}
 use Rattle.pfr_packet.specs.declared.keys.Subject.{Subject}
 use Rattle.pfr_packet.specs.declared.keys.Subject.TheVariants.{Alone, Embedded, Connection}
 
--- packets that come in are looked up on the wire side, those that go out on the stack side
+-- packets that come in are looked up on the wire side, packets that go out on the stack side
 abbrev pub side_of : Direction → Side
 side_of In = Wire
 side_of Out = Stack
 
--- the source of a packet that comes in is outside, that of one that goes out inside
+-- the source of a packet that comes in is outside, the source of a packet that goes out is inside
 abbrev pub key_of : Direction → Protocol → Endpoint → Endpoint → Key
 key_of In protocol source destination = record { protocol = protocol; outside = source; inside = destination }
 key_of Out protocol source destination = record { protocol = protocol; outside = destination; inside = source }
@@ -70,7 +70,8 @@ abbrev pub end_of : Direction → End
 end_of In = Destination
 end_of Out = Source
 
--- a packet that comes in goes to what is inside behind the firewall, one that goes out comes from what is inside on the wire
+-- what stands at the translated end: behind the firewall the end inside for a packet that comes in, on the wire for one
+-- that goes out
 abbrev pub translated_end : Direction → Key → Key → Endpoint
 translated_end In wire stack = stack.inside
 translated_end Out wire stack = wire.inside

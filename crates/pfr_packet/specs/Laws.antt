@@ -98,7 +98,8 @@ only_removes (Some (Removed number)) = true
 
 -- ---- packets that are passed over
 
--- an outcome by which a packet goes on, and which leaves the table and the packet as they are and names neither rule nor state
+-- an outcome with which a packet goes on; it leaves the table and the packet as they are, and names neither rule nor
+-- state
 pub record IsUntouched (outcome : Outcome) : Type 0 where
   pub goes_on : (outcome.verdict ≡ Pass) ⊎ (outcome.verdict ≡ Skip)
   pub change_is : outcome.change ≡ None
@@ -123,8 +124,8 @@ HasLeave rules states outcome =
 abbrev pub says_no_sync : FlatRule → Bool
 says_no_sync rule = elim rule.state [ None ↦ false | Some kept ↦ kept.no_sync ]
 
--- a standby is told of the state unless the filter rule says `no-sync`, and it lets IP options pass just where that rule says
--- `allow-opts`; without a filter rule a standby is told, and no IP options pass
+-- a standby is told of the state unless the filter rule says `no-sync`, and the state lets IP options pass if and only
+-- if that rule says `allow-opts`; without a filter rule a standby is told, and no IP options pass
 abbrev pub SaysAsItsRule : List FlatRule → Option RuleNumber → StateRules → Type 0
 SaysAsItsRule rules None said = (said.is_synchronised ≡ true) × (said.allows_options ≡ false)
 SaysAsItsRule rules (Some number) said =
@@ -135,12 +136,13 @@ abbrev pub policy_of : StatePolicy → Option FlatRule → StatePolicy
 policy_of policy None = policy
 policy_of policy (Some rule) = elim rule.state [ None ↦ policy | Some kept ↦ kept.policy ]
 
--- the policy of a state by the filter rule that decides: without one that keeps a state it is the ruleset's
+-- the policy of a state by the deciding filter rule; if no rule keeps the state, the ruleset's policy
 abbrev pub policy_for : Ruleset → Option RuleNumber → StatePolicy
 policy_for rules None = rules.options.state_policy
 policy_for rules (Some number) = policy_of rules.options.state_policy (slice_get rules.filter.rules number.0)
 
--- the rules of a state that a packet of an interface makes are those on the packet's line, and it is bound by their policy
+-- the rules of a state that a packet of an interface makes are those on the packet's line, and it is bound by their
+-- policy
 pub record AreRulesOf (rules : Ruleset) (place : InterfacePlace) (outcome : Outcome) (said : StateRules) : Type 0 where
   pub filter : said.filter ≡ outcome.rule
   pub translation : said.translation ≡ outcome.translation
@@ -162,7 +164,7 @@ times number (x ∷ xs) = (if x == number then 1 else 0) + times number xs
 
 -- ---- what the laws say
 
--- what a packet comes to rests on nothing but what is asked for it
+-- what a packet comes to depends on the answers to its questions alone
 abbrev pub SameAnswersGiveTheSame : Type 0
 SameAnswersGiveTheSame =
     (job : RunJob) (number : ℕ) (clock : Clock) (place : InterfacePlace) (view : View) (table other : StateTable)
@@ -192,7 +194,7 @@ MadeByTheRulesNamed =
     → (step_of job number clock place view table).change ≡ Some (Made state)
     → AreRulesOf job.rules place (step_of job number clock place view table) state.rules
 
--- a state is made only where its filter rule has room: of one that says how many states it may have there are fewer
+-- a state is made only if its filter rule has room: a rule with a limit of states has fewer than that
 abbrev pub MadeWhereItsRuleHasRoom : Type 0
 MadeWhereItsRuleHasRoom =
     (job : RunJob) (number : ℕ) (clock : Clock) (place : InterfacePlace) (view : View) (table : StateTable) (state : State) (by : RuleNumber) (rule : FlatRule) (most : ℕ)
@@ -209,7 +211,7 @@ WrittenIsOfThePacket =
     → (step_of job number clock place view table).bytes ≡ Some change
     → view ≡ Ipv4 change.packet
 
--- a packet that doesn't pass changes nothing, but that a state may be taken out
+-- a packet that doesn't pass changes nothing, except that it may take a state out
 abbrev pub BlockedOnlyRemoves : Type 0
 BlockedOnlyRemoves =
     (job : RunJob) (number : ℕ) (clock : Clock) (place : InterfacePlace) (view : View) (table : StateTable)
@@ -230,7 +232,7 @@ OpensNoConnection =
     → opens_connection packet.transport ≡ false
     → (step_of job number clock place (Ipv4 packet) table).change ≡ None
 
--- where a state is found, no rule is visited
+-- if a state is found, no rule is visited
 abbrev pub NoRuleBehindAState : Type 0
 NoRuleBehindAState =
     (job : RunJob) (number : ℕ) (clock : Clock) (place : InterfacePlace) (packet : Packet) (table : StateTable) (key : Key) (state : State)
@@ -238,7 +240,8 @@ NoRuleBehindAState =
     → found_in (purged_at clock table) (looked_up_on job.tap (direction_of job place packet)) key (binding.To place) ≡ Some state
     → (step_of job number clock place (Ipv4 packet) table).visited ≡ none_visited
 
--- a packet visits each filter rule and each translation rule at most once, if the translation rules have numbers of their own
+-- a packet visits each filter rule and each translation rule at most once, if the translation rules have numbers of
+-- their own
 abbrev pub VisitsRulesOnce : Type 0
 VisitsRulesOnce =
     (job : RunJob) (number : ℕ) (clock : Clock) (place : InterfacePlace) (view : View) (table : StateTable)
@@ -246,7 +249,7 @@ VisitsRulesOnce =
     → AtMostOnce (step_of job number clock place view table).visited.filter
     × AtMostOnce (step_of job number clock place view table).visited.translation
 
--- the limit of states blocks only where the table is full
+-- the limit of states blocks only if the table is full
 abbrev pub LimitBlocksWhereReached : Type 0
 LimitBlocksWhereReached =
     (job : RunJob) (number : ℕ) (clock : Clock) (place : InterfacePlace) (packet : Packet) (table : StateTable)
@@ -260,7 +263,7 @@ BlockedIsNotWritten =
     → lets_pass (step_of job number clock place (Ipv4 packet) table).verdict ≡ false
     → (step_of job number clock place (Ipv4 packet) table).bytes ≡ None
 
--- a packet with IP options passes only where a rule or a state allows them
+-- a packet with IP options passes only if a rule or a state allows them
 abbrev pub OptionsPassByLeave : Type 0
 OptionsPassByLeave =
     (job : RunJob) (number : ℕ) (clock : Clock) (place : InterfacePlace) (packet : Packet) (table : StateTable)
@@ -269,7 +272,7 @@ OptionsPassByLeave =
     → ((step_of job number clock place (Ipv4 packet) table).reason ≡ SkipOn → ⊥)
     → HasLeave job.rules.filter.rules (purged_at clock table).states (step_of job number clock place (Ipv4 packet) table)
 
--- each port of a range is tried once, and no other
+-- each port of a range is tried once, and no other port
 abbrev pub EachPortOnce : Type 0
 EachPortOnce =
     (low high word port : ℕ)
@@ -277,7 +280,7 @@ EachPortOnce =
     → (low ≤ port → port ≤ high → times port (try_list low high word) ≡ 1)
     × ((port < low) ⊎ (high < port) → times port (try_list low high word) ≡ 0)
 
--- it goes on by the key of the first port that is free, and the keys up to it are asked for
+-- it goes on by the key of the first free port, and the table is asked for the keys up to it
 abbrev pub FirstFreeIsPicked : Type 0
 FirstFreeIsPicked =
     (table : StateTable) (wire : ℕ → Key) (next : Option Key → Plan) (ports : List ℕ)
@@ -285,7 +288,7 @@ FirstFreeIsPicked =
     × (questions_of table (picking wire next ports)
     ≡ up_to_first (is_free_in table wire) (λ port. At Wire (wire port) binding.All) ports ++ questions_of table (next (picked table wire ports)))
 
--- none is picked just where none is free
+-- none is picked if and only if none is free
 abbrev pub NoneWhereAllAreTaken : Type 0
 NoneWhereAllAreTaken =
     (table : StateTable) (wire : ℕ → Key) (ports : List ℕ)

@@ -26,7 +26,7 @@ with_keys packet state outcome None None = ask_room (with_room packet state outc
 with_keys packet state outcome None (Some other) = done (blocked StateInsert outcome)
 with_keys packet state outcome (Some other) stack = done (blocked StateInsert outcome)
 
--- both keys are asked, on the interfaces to which the state is bound, and then the room
+-- the table is asked for both keys, on the interfaces to which the state is bound, and then for room
 abbrev pub making : Packet → State → Outcome → Plan
 making packet state outcome =
     ask_at Wire state.wire state.rules.binding (λ wire. ask_at Stack state.stack state.rules.binding (λ stack. with_keys packet state outcome wire stack))

@@ -33,7 +33,7 @@ unseen verdict reason = record {
 abbrev pub fresh : Outcome
 fresh = unseen Skip NotIp
 
--- one whose state is found: no rule is visited, the state's are named
+-- a packet whose state is found: no rule is visited, and the state's rules are named
 abbrev pub by_state : Direction → State → Verdict → Reason → Outcome
 by_state direction state verdict reason = record {
   direction = Some direction;
@@ -51,7 +51,7 @@ by_state direction state verdict reason = record {
 abbrev pub blocked : Reason → Outcome → Outcome
 blocked reason outcome = record outcome { verdict = Block; reason = reason; bytes = None; change = None }
 
--- a packet with IP options that would pass is blocked where they are not allowed (pf.conf(5), "allow-opts")
+-- a packet with IP options that would pass is blocked if they aren't allowed (pf.conf(5), "allow-opts")
 abbrev pub without_leave : Packet → Bool → Outcome → Outcome
 without_leave packet allowed outcome =
     if lets_pass outcome.verdict && (has_options packet && not allowed) then blocked IpOption outcome else outcome

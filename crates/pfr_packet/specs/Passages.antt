@@ -1,5 +1,5 @@
--- How a packet that begins a connection gets through the firewall: the connection's key on the wire and the one behind it, and
--- the translation rule that makes one of the other (pf.conf(5), "Translation").
+-- How a packet that begins a connection gets through the firewall: the connection's key on the wire, its key behind the
+-- firewall, and the translation rule that makes one of the other (pf.conf(5), "Translation").
 use Rattle.std.specs.Prelude.{ℕ, Bool, true, false, not, if◌then◌else◌, List, [], Option, Some, None}
 use Rattle.pfr_net.specs.declared.address.Ipv4Address.{Ipv4Address}
 use Rattle.pfr_net.specs.declared.direction.Direction.{Direction}
@@ -33,7 +33,7 @@ use Rattle.pfr_packet.specs.Plan.{FilterAnswer}
 
 -- ---- keys
 
--- both keys of a connection that isn't translated are one
+-- both keys of a connection that isn't translated are the same
 abbrev pub untranslated : Key → Passage
 untranslated key = record { wire = key; stack = key; translation = None; passes = false }
 
@@ -42,7 +42,7 @@ has_ports (transport.Tcp header) = true
 has_ports (transport.Udp header) = true
 has_ports _ = false
 
--- another address at an end, and the port by the one that stands there; an identifier stays
+-- an end with another address, and the port that the mapping gives for its own; an identifier stays
 abbrev pub mapped_end : Transport → Endpoint → Ipv4Address → PortMapping → Endpoint
 mapped_end packet own address mapping = endpoint address (if has_ports packet then mapped mapping own.port else own.port)
 
@@ -54,13 +54,13 @@ abbrev pub mapped_passage : Direction → Key → Hit → Endpoint → Passage
 mapped_passage In key hit inside = record { wire = key; stack = with_inside key inside; translation = Some hit.number; passes = hit.passes }
 mapped_passage Out key hit inside = record { wire = with_inside key inside; stack = key; translation = Some hit.number; passes = hit.passes }
 
--- a packet that goes out by a key on the wire that was picked
+-- a packet that goes out with a picked key on the wire
 abbrev pub picked_passage : Key → Hit → Key → Passage
 picked_passage key hit wire = record { wire = wire; stack = key; translation = Some hit.number; passes = hit.passes }
 
 -- ---- the packet that is filtered
 
--- the packet behind its translation, as it is written where it passes
+-- the packet behind its translation, as it is written if it passes
 abbrev pub translated_by : Direction → Passage → Packet → Option RuleNumber → Option Packet
 translated_by direction passage packet None = None
 translated_by direction passage packet (Some number) = Some (translated (end_of direction) (translated_end direction passage.wire passage.stack) packet)
@@ -118,7 +118,7 @@ exhausted direction number visits = record {
 
 -- ---- the state that it makes
 
--- a state is bound to the interface that makes it, or to none (pf.conf(5), "state-policy")
+-- a state is bound to the interface that makes it, or to all (pf.conf(5), "state-policy")
 abbrev pub binding_by : StatePolicy → InterfacePlace → Binding
 binding_by IfBound place = To place
 binding_by Floating place = All
@@ -132,8 +132,8 @@ rules_by place policy translation rule allowed no_sync = record {
   binding = binding_by policy place;
 }
 
--- What the state says of its rules, by the state that the deciding rule keeps. A translated packet makes one whatever that rule says:
--- it is bound by the ruleset's policy, and a standby is told of it.
+-- What the state says of its rules, by the state that the deciding rule keeps. If that rule keeps none, a translated
+-- packet makes a state all the same: it is bound by the ruleset's policy, and a standby is told of it.
 abbrev pub kept_by_way : InterfacePlace → StatePolicy → Option RuleNumber → Option RuleNumber → Bool → Option StateRule → Option StateRules
 kept_by_way place policy translation rule allowed (Some state) = Some (rules_by place state.policy translation rule allowed state.no_sync)
 kept_by_way place policy (Some number) rule allowed None = Some (rules_by place policy (Some number) rule allowed false)

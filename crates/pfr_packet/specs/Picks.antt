@@ -1,7 +1,7 @@
 -- The port that a connection gets from a `nat` rule (pf.conf(5), "Translation").
 --
--- The ports of a range are tried from one of them on, which is drawn: up to the last, and then down from the one below the drawn
--- one to the first. The first port is picked whose key on the wire no state has.
+-- The ports of a range are tried from a drawn one on: up to the last, and then down from the one below the drawn one to
+-- the first. The first port whose key on the wire no state has is picked.
 use Rattle.std.specs.Prelude.{ℕ, zero, suc, ◌+◌, ◌-◌, ◌%◌, Bool, true, false, if◌then◌else◌, List, [], ◌∷◌, ◌++◌, Option, Some, None}
 use Rattle.std.specs.List.{find}
 use Rattle.std.specs.Option.{option_map}
@@ -27,17 +27,17 @@ use Rattle.pfr_packet.specs.Plan.{GoesUpTo, Plan, ask_at}
 
 -- ---- which ports are tried
 
--- so many numbers from a first one on
+-- `count` numbers from `first` on
 abbrev pub rising : ℕ → ℕ → List ℕ
 rising first zero = []
 rising first (suc count) = first ∷ rising (first + 1) count
 
--- so many numbers below a bound, the highest first
+-- `count` numbers below `bound`, the highest first
 abbrev pub falling : ℕ → ℕ → List ℕ
 falling bound zero = []
 falling bound (suc count) = (bound - 1) ∷ falling (bound - 1) count
 
--- where the ports from `low` to `high` are cut by a drawn word
+-- the port at which a drawn word cuts the ports from `low` to `high`
 abbrev pub cut_of : ℕ → ℕ → ℕ → ℕ
 cut_of low high word = low + word % (1 + (high - low))
 
@@ -45,13 +45,13 @@ cut_of low high word = low + word % (1 + (high - low))
 unfoldable pub try_list : ℕ → ℕ → ℕ → List ℕ
 try_list low high word = rising (cut_of low high word) (high + 1 - cut_of low high word) ++ falling (cut_of low high word) (cut_of low high word - low)
 
--- the ports of a rule, or those from 50001 on
+-- the ports of a rule, or the ports from 50001 on
 abbrev pub range_or_high : Option PortRange → PortRange
 range_or_high None = record { low = 50001; high = 65535 }
 range_or_high (Some range) = range
 
--- An echo's identifier may be any but 0, whichever ports the rule writes. Protocols without ports have 0 alone, which stands at
--- their ends.
+-- An echo's identifier may be any but 0, whichever ports the rule writes. Protocols without ports have 0 alone, which
+-- stands at their ends.
 abbrev pub range_for : Transport → NatAddress → Port → PortsTried
 range_for (transport.Tcp header) target own = Among (range_or_high target.ports)
 range_for (transport.Udp header) target own = Among (range_or_high target.ports)
@@ -66,7 +66,8 @@ abbrev pub tries : PortsTried → ℕ → List ℕ
 tries (One port) word = port.0 ∷ []
 tries (Among range) word = try_list range.low range.high word
 
--- the word that is drawn for packet `number`: the first of the ChaCha20 stream of this number (RFC 8439), under the run's seed
+-- the word that is drawn for packet `number`: the first of the ChaCha20 stream of this number (RFC 8439), under the
+-- run's seed
 unfoldable pub word_of : List ℕ → ℕ → ℕ
 word_of seed number = word_at 10 (key_of seed) number 0
 

@@ -25,11 +25,11 @@ pub record FilterAnswer : Type 0 where
   pub decision : Decision
   pub visits : List ℕ
 
--- where no rule is asked the packet passes
+-- if no rule is asked, the packet passes
 abbrev pub no_answer : FilterAnswer
 no_answer = record { decision = record { rule = None; action = Pass }; visits = [] }
 
--- where a table says which rules have room
+-- by a table that says which rules have room
 abbrev pub filter_answer : Ruleset → IfName → StateTable → Packet → Direction → FilterAnswer
 filter_answer rules name table packet direction = record {
   decision = decision_of rules (rooms_in table) name packet direction;
@@ -38,22 +38,22 @@ filter_answer rules name table packet direction = record {
 
 -- ---- plans
 
--- An evaluation is done with an outcome, or it asks a question, or what the filter makes of a packet on the interface of a name,
--- and goes on by the answer.
+-- An evaluation is done with an outcome, or it asks a question, or what the filter makes of a packet on the interface
+-- of a name, and goes on by the answer.
 pub data Plan : Type 0 where
   done : Outcome → Plan
   ask_at : Side → Key → Binding → (Option State → Plan) → Plan
   ask_room : (Bool → Plan) → Plan
   ask_filter : Ruleset → IfName → Packet → Direction → (FilterAnswer → Plan) → Plan
 
--- what it comes to, where a table answers
+-- what it comes to, by a table's answers
 abbrev pub outcome_of : StateTable → Plan → Outcome
 outcome_of table (done outcome) = outcome
 outcome_of table (ask_at side key scope next) = outcome_of table (next (found_in table side key scope))
 outcome_of table (ask_room next) = outcome_of table (next (has_room_in table))
 outcome_of table (ask_filter rules name packet direction next) = outcome_of table (next (filter_answer rules name table packet direction))
 
--- what it asks, where a table answers
+-- what it asks, by a table's answers
 abbrev pub questions_of : StateTable → Plan → List Question
 questions_of table (done outcome) = []
 questions_of table (ask_at side key scope next) = At side key scope ∷ questions_of table (next (found_in table side key scope))

@@ -29,7 +29,8 @@ use Rattle.pfr_packet.specs.Taps.{is_translated}
 
 -- ---- which way packets go
 
--- on an interface whose address is known a packet goes out just if its frame was sent from there, whatever else it says
+-- on an interface whose address is known a packet goes out if and only if its frame was sent from there, whatever else
+-- it says
 abbrev pub GoesOutByItsSender : Type 0
 GoesOutByItsSender =
     (job : RunJob) (place : InterfacePlace) (packet : Packet) (address : EthernetAddress)
@@ -48,7 +49,7 @@ GoesBySourceByDefault =
 abbrev pub HasNoTranslations : Ruleset → Type 0
 HasNoTranslations rules = rules.translations ≡ no_translations
 
--- both keys of each state are one
+-- both keys of each state are the same
 abbrev pub AreUntranslated : List State → Type 0
 AreUntranslated states = (state : State) → Contains states state → state.wire ≡ state.stack
 
@@ -72,9 +73,9 @@ pub record IsFollowed (state : State) (outcome : Outcome) : Type 0 where
   pub named : outcome.state ≡ Some state.number
   pub unwritten : outcome.bytes ≡ None
 
--- What answers a packet that came in is shown as it leaves, to the one who sent that packet: it is found by the state of the packet,
--- though that was translated, on each interface to which the state is bound and which is filtered as the packet's own is, over each
--- later table in which the state still lives.
+-- An answer to a packet that came in is shown as it leaves, to the sender of that packet. It is found by the state of
+-- the packet, also if that was translated, on each interface to which the state is bound and which is filtered as the
+-- packet's own is, over each later table in which the state still lives.
 abbrev pub AnswersOnTheWireAreFollowed : Type 0
 AnswersOnTheWireAreFollowed =
     (job : RunJob) (number next : ℕ) (clock now : Clock) (place back : InterfacePlace) (packet answer : Packet) (table after : StateTable) (state later : State)
@@ -91,8 +92,8 @@ AnswersOnTheWireAreFollowed =
     → is_skipped job back ≡ is_skipped job place
     → IsFollowed later (step_of job next now back (Ipv4 answer) after)
 
--- A packet goes out by a state: as it reaches the firewall's filter it has the state's key on the side of the stack, and as the state
--- sends it on the key on the wire.
+-- A packet goes out by a state: as it reaches the firewall's filter it has the state's key on the side of the stack,
+-- and as the state sends it on the key on the wire.
 pub record GoesOutBy (packet sent : Packet) (state : State) : Type 0 where
   pub sent_is : sent ≡ sent_on packet (written_by Out packet state.wire state.stack)
   pub stack_protocol : state.stack.protocol ≡ packet.protocol
@@ -100,8 +101,8 @@ pub record GoesOutBy (packet sent : Packet) (state : State) : Type 0 where
   pub captured : GoesBy Out packet state.stack
   pub is_sent : GoesBy Out sent state.wire
 
--- Such a packet comes to the same where the wire shows it, over the same table, and nothing is written into it. So it has the same line,
--- and the state goes on alike.
+-- Such a packet comes to the same as the wire shows it, over the same table, and nothing is written into it. So it has
+-- the same line, and the state goes on alike.
 abbrev pub SameOnTheWire : Type 0
 SameOnTheWire =
     (job : RunJob) (number : ℕ) (clock : Clock) (place : InterfacePlace) (packet sent : Packet) (table : StateTable) (state : State)

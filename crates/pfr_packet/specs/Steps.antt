@@ -6,11 +6,12 @@
 --   a part of a packet, and an ICMP message of no connection, is filtered, and makes no state
 --   an ICMP error passes by the state of the packet that it embeds; without one it is filtered, and makes no state
 --   a packet of a state's connection is tracked; only a state counts that is bound to the packet's interface, or to all
---   any other is translated, where a translation rule says so; it is blocked where no port is free for it on all interfaces
+--   any other is translated, if a translation rule says so; it is blocked if no port is free for it on all interfaces
 --   behind its translation it is filtered, unless the rule says `pass`; a rule with `max` is asked whether it has room
---   where it passes it makes the state that the deciding rule keeps, if there is a place for it; translated it makes one anyhow
+--   if it passes it makes the state that the deciding rule keeps, if there is a place for it; translated it makes one
+--   anyhow
 --
--- Packets with IP options are blocked where they would pass and their rule doesn't allow them, before a state is made.
+-- Packets with IP options are blocked if they would pass and their rule doesn't allow them, before a state is made.
 use Rattle.std.specs.Prelude.{ℕ, Bool, true, false, if◌then◌else◌, List, [], Option, Some, None}
 use Rattle.pfr_net.specs.declared.direction.Direction.{Direction}
 use Rattle.pfr_net.specs.declared.interface.Binding.TheVariants.{To}
@@ -75,7 +76,7 @@ asking_embedded job place packet direction key = ask_at (looked_up_on job.tap di
 abbrev pub following : RunJob → Clock → Packet → Direction → State → Outcome
 following job clock packet direction state = as_shown job.tap direction (tracked direction packet state (touched state packet direction clock (timeouts_of job)))
 
--- the first one makes a state, where it passes so far and a rule keeps one
+-- the first one makes a state, if it passes so far and a rule keeps one
 abbrev pub opened : RunJob → ℕ → Clock → InterfacePlace → Packet → Direction → Passage → Outcome → Option StateRules → Plan
 opened job number clock place packet direction passage outcome None = done outcome
 opened job number clock place packet direction passage outcome (Some rules) =
@@ -83,7 +84,8 @@ opened job number clock place packet direction passage outcome (Some rules) =
     then making packet (made (record { 0 = number }) packet direction place passage.wire passage.stack rules clock (timeouts_of job)) outcome
     else done outcome
 
--- what the filter answers for a packet on the interface of a name, behind a passage over a table, unless the packet isn't filtered
+-- what the filter answers for a packet on the interface of a name, behind a passage over a table, unless the packet
+-- isn't filtered
 abbrev pub answer_for : Ruleset → IfName → StateTable → Direction → Packet → Passage → FilterAnswer
 answer_for rules name table direction packet passage =
     if passage.passes then no_answer else filter_answer rules name table (behind direction passage packet) direction
@@ -122,7 +124,7 @@ abbrev pub by_hit : RunJob → ℕ → Clock → InterfacePlace → Packet → D
 by_hit job number clock place packet direction visits key None = going job number clock place packet direction visits (untranslated key)
 by_hit job number clock place packet direction visits key (Some hit) = by_end job number clock place packet direction visits key hit hit.new_end
 
--- no translation rule is asked for a packet that is shown behind its translation
+-- translation rules aren't asked for a packet that is shown behind its translation
 abbrev pub translations_asked : RunJob → InterfacePlace → Packet → Direction → List ℕ
 translations_asked job place packet direction =
     if is_translated job.tap direction then [] else translations_visited job.rules (name_in job place) packet direction
@@ -151,8 +153,8 @@ subject_plan job number clock place packet direction (Connection key) = asking_c
 unfoldable pub packet_plan : RunJob → ℕ → Clock → InterfacePlace → Packet → Direction → Plan
 packet_plan job number clock place packet direction = subject_plan job number clock place packet direction (subject_of direction packet)
 
--- the plans of a packet that arrives: as an error, and as the first packet of a connection that goes through by a passage, by
--- a translation rule, and in all
+-- the plans of a packet that arrives: as an error, and as the first packet of a connection that goes through by a
+-- passage, by a translation rule, and in all
 abbrev pub embedded_plan : Arrival → Key → Plan
 embedded_plan arrival key = asking_embedded arrival.job.now arrival.place arrival.packet.now arrival.direction key
 
@@ -166,7 +168,7 @@ behind_passage arrival passage = behind arrival.direction passage arrival.packet
 abbrev pub name_of : Arrival → IfName
 name_of arrival = name_in arrival.job.now arrival.place
 
--- what is asked for it of the rooms of rules
+-- the questions for it about the room of rules
 abbrev pub asked_behind : Arrival → StateTable → Passage → List Question
 asked_behind arrival table passage =
     rooms_asked arrival.job.now.rules (rooms_in table) (name_of arrival) (behind_passage arrival passage) arrival.direction
@@ -174,8 +176,8 @@ asked_behind arrival table passage =
 abbrev pub asked_for : Arrival → StateTable → Passage → List Question
 asked_for arrival table passage = if passage.passes then [] else asked_behind arrival table passage
 
--- what the filter makes of it there over a table, whether the rule that decides allows IP options, and the state that this rule
--- keeps
+-- what the filter makes of it there over a table, whether the deciding rule allows IP options, and the state that this
+-- rule keeps
 abbrev pub filtered_behind : Arrival → StateTable → Passage → Outcome
 filtered_behind arrival table passage = filtered_over arrival.job.now.rules (name_of arrival) table (behind_passage arrival passage) arrival.direction
 
@@ -185,8 +187,8 @@ leave_behind arrival table passage = leave_over arrival.job.now.rules (name_of a
 abbrev pub state_behind : Arrival → StateTable → Passage → Option StateRule
 state_behind arrival table passage = kept_over arrival.job.now.rules (name_of arrival) table (behind_passage arrival passage) arrival.direction
 
--- what becomes of it behind a passage over a table, which isn't filtered where the passage lets it pass, and what the state says of
--- its rules that it may make
+-- what becomes of it behind a passage over a table; it isn't filtered if the passage lets it pass; and what the state
+-- that it may make says of its rules
 abbrev pub judged_for : Arrival → StateTable → Passage → List ℕ → Outcome
 judged_for arrival table passage visits =
     judged arrival.job.now.rules (answer_for arrival.job.now.rules (name_of arrival) table arrival.direction arrival.packet.now passage)
@@ -230,6 +232,6 @@ plan job number clock place (Ipv4 packet) =
 unfoldable pub step_of : RunJob → ℕ → Clock → InterfacePlace → View → StateTable → Outcome
 step_of job number clock place view table = outcome_of (purged_at clock table) (plan job number clock place view)
 
--- what is asked of the table on the way
+-- the questions to the table on the way
 unfoldable pub asked_of : RunJob → ℕ → Clock → InterfacePlace → View → StateTable → List Question
 asked_of job number clock place view table = questions_of (purged_at clock table) (plan job number clock place view)

@@ -1,5 +1,5 @@
--- Packets as a capture shows them. A firewall looks up and translates a packet that goes out before it is on the wire. Captured there it
--- is behind its translation: it has the ends of its state's wire key, and it is written already.
+-- Packets as a capture shows them. A firewall looks up and translates a packet that goes out before it is on the wire.
+-- Captured there it is behind its translation: it has the ends of its state's wire key, and it is written already.
 use Rattle.std.specs.Prelude.{Bool, true, false, if◌then◌else◌, None}
 use Rattle.pfr_net.specs.declared.direction.Direction.{Direction}
 use Rattle.pfr_net.specs.declared.direction.Direction.TheVariants.{Out}
@@ -19,6 +19,6 @@ is_translated _ _ = false
 abbrev pub looked_up_on : Tap → Direction → Side
 looked_up_on tap direction = if is_translated tap direction then Wire else side_of direction
 
--- what one comes to whose state is found: nothing is written into it if it is written already
+-- the outcome, as it is shown, of a packet whose state is found: nothing is written into it if it is written already
 abbrev pub as_shown : Tap → Direction → Outcome → Outcome
 as_shown tap direction outcome = if is_translated tap direction then record outcome { bytes = None } else outcome

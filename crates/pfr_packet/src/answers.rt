@@ -14,10 +14,11 @@ use pfr_states::{Lookup, Place, Side, Table};
 use pfr_track::{Binding, Clock, InterfacePlace, Key, State};
 use std::alloc::AllocError;
 
-/// Answers to all questions, whether a rule has room among them. All answers of one value are those of one table at one clock. It
-/// knows which questions were asked: each that it answers is one of them from then on.
+/// Answers to all questions, also whether a rule has room. All answers of one value are those of one table at one
+/// clock. The value knows which questions were asked: each question that it answers is one of them from then on.
 pub trait Answers: RuleRoom {
-    /// The state with this key on a side that is bound to an interface of the scope; of several the one of least number.
+    /// The state with this key on a side that is bound to an interface of the scope; of several the one with the least
+    /// number.
     fn at(&mut self, side: Side, key: &Key, scope: Binding) -> Result<Option<State>, AllocError>
         ensures seen { Self.seen self.new ≡ Self.seen self.old }
         ensures answer { IfOk result (λ found. found ≡ found_in (Self.seen self.old) side key.now scope) }
@@ -36,9 +37,9 @@ pub trait Answers: RuleRoom {
 pub struct Direct<'a> {
     pub table: &'a Table,
     pub clock: Clock,
-    /// Where the state may stand that is asked for first, by its key on the side of [`lookup_of`].
+    /// The place where the first state to be looked up may stand, by its key on the side of [`lookup_of`].
     pub hint: Option<Place>,
-    /// Where the state stood that was found last, if one was.
+    /// The place of the state that was found last, if one was.
     pub found: Option<Place>,
 }
 
@@ -78,8 +79,8 @@ impl Answers for Direct<'_> {
     }
 }
 
-/// By what a state is looked for first when a packet of an interface is evaluated, if one is. Whoever evaluates packets in a
-/// row may look all their states up together beforehand, and name their places as hints ([`Direct`]).
+/// The key by which a state is looked up first when a packet of an interface is evaluated, if there is one. To evaluate
+/// several packets, look up all their states together beforehand, and name their places as hints ([`Direct`]).
 pub fn lookup_of(job: &Job, place: InterfacePlace, view: &View) -> Option<Lookup> {
     let View::Ipv4(packet) = view else {
         return None;

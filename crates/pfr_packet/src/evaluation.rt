@@ -27,8 +27,9 @@ use std::alloc::{AllocError, Global};
 
 /// An IPv4 packet that is evaluated.
 ///
-/// What it comes to is written over a fresh outcome on each way, and said of the outcome where the packet doesn't end for want of
-/// memory. An outcome is large, and would be copied where ways meet. The ways that few packets go are calls of their own.
+/// Each way writes what the packet comes to over a fresh outcome. The contracts speak of the outcome only if memory
+/// isn't refused. An outcome is large, and would be copied where ways meet. The ways that few packets go are calls of
+/// their own.
 #[derive(Clone, Copy)]
 struct Arrival<'a> {
     alloc: Global,
@@ -41,7 +42,8 @@ struct Arrival<'a> {
     direction: Direction,
 }
 
-/// What translated a packet behind a passage is named in what the filter made of it; these translation rules were visited.
+/// Names the translation rule of a passage, and the translation rules that were visited, in what the filter made of the
+/// packet.
 fn name_translation(outcome: &mut Outcome, passage: &Passage, visits: Visits)
     ensures { outcome.new ≡ by_way passage.now visits outcome.old }
 {
@@ -100,8 +102,8 @@ impl Arrival<'_> {
         }
     }
 
-    /// What it does to the state of its connection, and comes to, written over a fresh outcome. The state becomes what it is from
-    /// then on.
+    /// What it does to the state of its connection, and comes to, written over a fresh outcome. The state is changed in
+    /// its place.
     #[inline(always)]
     fn by_state(&self, state: &mut State, outcome: &mut Outcome)
         requires { outcome.old ≡ fresh }
@@ -120,8 +122,8 @@ impl Arrival<'_> {
         show(self.job.tap(), self.direction, outcome);
     }
 
-    /// What becomes of it behind a passage, before a state is made for it. These translation rules were visited. It answers what the
-    /// state says of its rules, for a packet that passes and may make one.
+    /// What becomes of it behind a passage, before a state is made for it; `visits` are the translation rules that were
+    /// visited. It answers what the state says of its rules, for a packet that passes and may make a state.
     fn judge<A: Answers>(
         &self,
         passage: &Passage,
@@ -159,7 +161,7 @@ impl Arrival<'_> {
         Ok(kept)
     }
 
-    /// What the filter makes of it behind a passage. It answers what the rule that decides says beyond its verdict.
+    /// What the filter makes of it behind a passage. It answers what the deciding rule says beyond its verdict.
     fn filter_behind<A: Answers>(
         &self,
         passage: &Passage,
@@ -198,8 +200,8 @@ impl Arrival<'_> {
         }
     }
 
-    /// What it comes to as the first packet of a connection by what it came to so far, and by what the state says of its rules that
-    /// it may make.
+    /// What it comes to as the first packet of a connection, by what it came to so far, and by what the state that it
+    /// may make says of its rules.
     fn open<A: Answers>(
         &self,
         passage: &Passage,
@@ -247,7 +249,7 @@ impl Arrival<'_> {
         self.open(passage, kept, answers, outcome)
     }
 
-    /// What it comes to as the first packet of a connection that gets an address of a `nat` rule, with a port that is free.
+    /// What it comes to as the first packet of a connection that gets an address of a `nat` rule, with a free port.
     fn by_pick<A: Answers>(
         &self,
         key: &Key,
@@ -305,7 +307,7 @@ impl Arrival<'_> {
         }
     }
 
-    /// The translation rule that translates it, if one does, and those that are visited for it.
+    /// The translation rule that translates it, if one does, and the translation rules that are visited for it.
     fn translated(&self) -> Result<(Option<Hit>, Visits), AllocError>
         ensures hit { IfOk result (λ found. found.0 ≡ spec.translation_hit self.now.job.now self.now.place self.now.packet.now self.now.direction) }
         ensures visits { IfOk result (λ found. found.1 ≡ spec.translations_asked self.now.job.now self.now.place self.now.packet.now self.now.direction) }
@@ -341,11 +343,11 @@ impl Arrival<'_> {
     }
 }
 
-/// What packet `number` of a run, captured on an interface, comes to at a clock, by what a table of states answers: its verdict
-/// and why, the rules and the state that are named, the rules that were visited, and what it changes in its own bytes and in the
-/// table.
+/// What packet `number` of a run, captured on an interface, comes to at a clock, by what a table of states answers: its
+/// verdict and why, the rules and the state that are named, the rules that were visited, and what it changes in its own
+/// bytes and in the table.
 ///
-/// All that the outcome rests on was asked: over every table that answers these questions so, it is the same.
+/// The outcome depends on the answers alone: over every table that gives the same answers it is the same.
 pub fn step<A: Answers>(
     alloc: Global,
     job: &Job,
@@ -373,7 +375,8 @@ pub fn step<A: Answers>(
     Ok(outcome)
 }
 
-/// What [`step`] answers, written over a fresh outcome, which is large. Where memory is refused it says nothing of the packet.
+/// What [`step`] answers, written over a fresh outcome, which is large. If memory is refused, the outcome says nothing
+/// of the packet.
 #[tactic(auto, unfolding(crate::specs::Steps::plan, crate::specs::Steps::packet_plan))]
 pub fn step_into<A: Answers>(
     alloc: Global,
@@ -391,7 +394,7 @@ pub fn step_into<A: Answers>(
     ensures kept { (question : Question) → A.asked answers.old question → A.asked answers.new question }
 {
     let packet = match view {
-        // A fresh outcome is that of such a packet.
+        // A fresh outcome is what such a packet comes to.
         View::Skip => return Ok(()),
         View::Short if !job.is_skipped(place) => {
             *outcome = Outcome::unseen(alloc, Verdict::Block, Reason::Short);

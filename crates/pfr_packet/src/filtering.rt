@@ -14,12 +14,12 @@ use pfr_rules::{Decision, RuleRoom, Visits, filter};
 use pfr_ruleset::{FilterAction, FlatRule, Ruleset, StateRule};
 use std::alloc::{AllocError, Global};
 
-/// What the rule that decides says beyond its verdict.
+/// What the deciding rule says beyond its verdict.
 #[derive(Clone, Copy)]
 pub struct Conduct {
     /// Packets with IP options may pass.
     pub allows_options: bool,
-    /// The state that it keeps, if it keeps one.
+    /// The state that the rule keeps, if it keeps one.
     pub state: Option<StateRule>,
 }
 
@@ -44,7 +44,7 @@ fn reason_of(rule: Option<RuleNumber>) -> Reason
     }
 }
 
-/// What the rule that decides says beyond its verdict. Without one IP options aren't allowed, and no state is kept.
+/// What the deciding rule says beyond its verdict. Without such a rule IP options aren't allowed, and no state is kept.
 fn conduct_of(rules: &[FlatRule], rule: Option<RuleNumber>) -> Conduct
     ensures { result ≡ spec.conduct_of rules.now rule }
 {
@@ -64,7 +64,7 @@ fn conduct_of(rules: &[FlatRule], rule: Option<RuleNumber>) -> Conduct
     }
 }
 
-/// Makes a fresh outcome what a decision of the filter comes to.
+/// Writes a decision of the filter over a fresh outcome.
 fn decide(outcome: &mut Outcome, direction: Direction, decision: Decision, visits: Visits)
     requires { outcome.old ≡ fresh }
     ensures { outcome.new ≡ spec.decided direction decision visits }
@@ -76,9 +76,9 @@ fn decide(outcome: &mut Outcome, direction: Direction, decision: Decision, visit
     outcome.visited.filter = visits;
 }
 
-/// What the filter makes of a packet on the interface of this name by itself, written over a fresh outcome. One with IP
-/// options that are not allowed doesn't pass. It answers what the rule that decides says beyond its verdict. Rules with `max`
-/// are asked whether they have room.
+/// What the filter makes of a packet on the interface of this name by itself, written over a fresh outcome. A packet
+/// with IP options that aren't allowed doesn't pass. It answers what the deciding rule says beyond its verdict. Rules
+/// with `max` are asked whether they have room.
 #[tactic(auto, unfolding(crate::specs::Filtering::filtered, crate::specs::Filtering::allows_options, crate::specs::Filtering::kept))]
 pub(crate) fn filter_into<R: RuleRoom>(
     alloc: Global,

@@ -14,8 +14,8 @@ use pfr_net::{Direction, Timeouts};
 use pfr_states::TableChange;
 use pfr_track::{Advance, Clock, State, advance};
 
-/// Makes a fresh outcome what an ICMP error comes to that embeds a packet of a state's connection: it passes, and the state stays as
-/// it is.
+/// Writes over a fresh outcome what an ICMP error comes to that embeds a packet of a state's connection: it passes, and
+/// the state stays as it is.
 pub(crate) fn embed(outcome: &mut Outcome, direction: Direction, packet: &Packet, state: &State)
     requires { outcome.old ≡ fresh }
     ensures { outcome.new ≡ spec.embedded direction packet.now state.now }
@@ -27,8 +27,8 @@ pub(crate) fn embed(outcome: &mut Outcome, direction: Direction, packet: &Packet
     outcome.ask_leave(packet, state.rules.allows_options);
 }
 
-/// Makes what a packet with a state's key comes to, out of what it comes to where it doesn't fit. The state becomes what it is
-/// from then on. Both are large, so they are changed in their places.
+/// What a packet with a state's key comes to. The outcome given is that of a packet that doesn't fit. Outcome and state
+/// are large, so both are changed in their places.
 #[inline(always)]
 pub(crate) fn track(
     outcome: &mut Outcome,

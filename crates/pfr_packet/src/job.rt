@@ -1,4 +1,4 @@
-//! What packets are evaluated by.
+//! The job of a run: what its packets are evaluated by.
 ghost use Rattle.std.specs.Prelude.{◌≡◌, ◌↔◌, ◌&&◌, nat_lt, IfOk, IfErr, Ok, Err, IsTrue};
 ghost use Rattle.std.specs.List.{list_any};
 ghost use Rattle.pfr_net.specs.Networks.{holds};
@@ -17,8 +17,9 @@ use pfr_ruleset::{Interface, Ruleset};
 use std::alloc::{AllocError, Global};
 use std::marker::Model;
 
-/// What every packet of a run is evaluated by: the ruleset's text, the interfaces, what says which way packets go, where they were
-/// captured and the seed, and the ruleset that the text means for the interfaces. Two jobs are one if all but the last are.
+/// What every packet of a run is evaluated by: the ruleset's text, the interfaces, the settings that say which way
+/// packets go and where they were captured, the seed, and the ruleset that the text means for the interfaces. Two jobs
+/// are the same if all but the last are.
 #[derive(Drop)]
 pub struct Job {
     text: Items<u8>,
@@ -44,8 +45,9 @@ impl Model for Job {
 }
 
 impl Job {
-    /// A job by its inputs, or the first fault of the ruleset's text. A text of more than one MiB is refused before it is
-    /// read. No network is excepted, no link-level address is known, and packets were captured on the side of the stack.
+    /// A job by its inputs, or the first fault of the ruleset's text. A text of more than one MiB is refused before it
+    /// is read. No network is excepted, no link-level address is known, and packets were captured on the side of the
+    /// stack.
     pub fn new(
         alloc: Global,
         text: &[u8],
@@ -63,7 +65,7 @@ impl Job {
         Job::of(alloc, text, interfaces, inside, seed, rules)
     }
 
-    /// A job whose ruleset is known.
+    /// A job with a ruleset that is read already.
     fn of(
         alloc: Global,
         text: &[u8],
@@ -102,15 +104,15 @@ impl Job {
         })
     }
 
-    /// The job for packets that were captured on this side of their translation.
+    /// The job for packets that were captured on the side `tap` of their translation.
     pub fn with_tap(self, tap: Tap) -> Job
         ensures { result ≡ record self { tap = tap } }
     {
         Job { tap, ..self }
     }
 
-    /// The job with networks whose packets come in, though an inside network with a shorter prefix holds their source. Of an inside
-    /// and an excepted network that are the same the excepted one counts.
+    /// The job with networks whose packets come in, though an inside network with a shorter prefix holds their source.
+    /// If an inside and an excepted network are the same, the excepted one counts.
     pub fn with_excepted(self, alloc: Global, networks: &[Net]) -> Result<Job, AllocError>
         ensures { IfOk result (λ job. job ≡ record self { excepted = networks.now }) }
     {
@@ -118,8 +120,8 @@ impl Job {
         Ok(Job { excepted, ..self })
     }
 
-    /// The job with the link-level addresses of the interfaces, by their places, where they are known. On an interface whose address
-    /// is known the packets go out whose frames were sent from it, and all others come in.
+    /// The job with the link-level addresses of the interfaces, by their places, if they are known. On an interface
+    /// whose address is known, packets go out if their frames were sent from it, and all others come in.
     pub fn with_link_addresses(
         self,
         alloc: Global,
@@ -134,7 +136,7 @@ impl Job {
         })
     }
 
-    /// Whether two jobs are one: they have the same inputs.
+    /// Whether two jobs are the same: they have the same inputs.
     pub fn is_same(&self, other: &Job) -> bool
         ensures { IsTrue result ↔ (self.now ≡ other.now) }
     {
@@ -144,7 +146,7 @@ impl Job {
             && is_same_bytes(self.text.as_slice(), other.text.as_slice())
     }
 
-    /// Whether they say the same of which way packets go, and of where they were captured.
+    /// Whether two jobs say the same of which way packets go, and of where they were captured.
     fn has_same_settings(&self, other: &Job) -> bool
         ensures { IsTrue result ↔ spec.HaveSameSettings self.now other.now }
     {
@@ -181,7 +183,7 @@ impl Job {
         &self.rules
     }
 
-    /// Where packets were captured that go out.
+    /// Where packets that go out were captured.
     #[inline]
     pub(crate) fn tap(&self) -> Tap
         ensures { result ≡ self.now.tap }
@@ -306,7 +308,7 @@ fn is_same_tap(first: Tap, second: Tap) -> bool
     first == second
 }
 
-/// Want of memory, which is no line's.
+/// Refused memory as an error, which has no line of the text.
 fn no_memory() -> ConfError
     ensures kind { result.kind ≡ Memory }
     ensures line { result.line ≡ 0 }

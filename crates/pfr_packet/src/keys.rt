@@ -1,4 +1,4 @@
-//! What packets are looked up by.
+//! The keys by which packets are looked up.
 ghost use Rattle.std.specs.Prelude.{◌≡◌, ◌&&◌, ◌==◌};
 ghost use Rattle.pfr_states.specs.States.{is_same_end};
 ghost use Rattle.pfr_packet.specs.Keys as spec;
@@ -8,7 +8,7 @@ use pfr_net::{Direction, Endpoint, Ipv4Address, Port, Protocol};
 use pfr_states::Side;
 use pfr_track::Key;
 
-/// What the table of states is asked about a packet.
+/// What the table of states is asked for a packet.
 #[derive(Clone, Copy)]
 pub enum Subject {
     /// Nothing: a part of a packet, or an ICMP message that belongs to no connection.
@@ -79,7 +79,7 @@ fn own_key(direction: Direction, packet: &Packet, source: Port, destination: Por
     )
 }
 
-/// The key of the packet that an error embeds, which went the other way.
+/// The key of the packet that an ICMP error embeds; that packet went the other way.
 #[inline]
 fn embedded_key(direction: Direction, inner: &Inner) -> Key
     ensures { result ≡ spec.embedded_key direction inner.now }
@@ -131,7 +131,7 @@ pub fn subject_of(direction: Direction, packet: &Packet) -> Subject
     }
 }
 
-/// The end that a packet of a direction has translated.
+/// The end of a packet of a direction that is translated.
 #[inline]
 pub(crate) fn end_of(direction: Direction) -> End
     ensures { result ≡ spec.end_of direction }
@@ -142,7 +142,7 @@ pub(crate) fn end_of(direction: Direction) -> End
     }
 }
 
-/// What stands at that end behind the translation.
+/// The address and port at the translated end, behind the translation.
 #[inline]
 pub(crate) fn translated_end(direction: Direction, wire: &Key, stack: &Key) -> Endpoint
     ensures { result ≡ spec.translated_end direction wire.now stack.now }
@@ -160,7 +160,7 @@ fn is_same_end(a: &Endpoint, b: &Endpoint) -> bool
     a.address.0 == b.address.0 && a.port.0 == b.port.0
 }
 
-/// What is written into a packet whose connection has these keys; nothing where these have one inside.
+/// What is written into a packet whose connection has these keys, or None if both have the same end inside.
 #[inline]
 pub fn written_by(direction: Direction, packet: &Packet, wire: &Key, stack: &Key) -> Option<Change>
     ensures { result ≡ spec.written_by direction packet.now wire.now stack.now }

@@ -1,8 +1,8 @@
 //! What one packet of a run comes to.
 //!
-//! [`step`] evaluates a packet under a [`Job`], by what a table of states answers. Its definition is a plan: done with an
-//! outcome, or a question to the table, or to the filter, and how it goes on by the answer. So what a packet comes to, and all that was asked for
-//! it, are two readings of one definition.
+//! [`step`] evaluates a packet under a [`Job`], by what a table of states answers. Its definition is a plan: done with
+//! an outcome, or a question to the table or the filter, and how it goes on by the answer. So what a packet comes to,
+//! and all questions on the way, are two readings of one definition.
 #![tactic(auto)]
 
 pub mod answers;

@@ -22,8 +22,9 @@ fn put_made(outcome: &mut Outcome, packet: &Packet, state: &State)
     outcome.change = Some(TableChange::Made(*state));
 }
 
-/// What a packet comes to that passes and would make a state: it is blocked if one of the state's keys is another one's on an
-/// interface to which both are bound, and then if there is no room. The outcome says what it comes to without a state, and then with it.
+/// What a packet comes to that passes and would make a state. It is blocked if another state has one of the state's
+/// keys on an interface to which both are bound, and then if there is no room. `outcome` is what it comes to without
+/// the state, and becomes what it comes to with it.
 pub(crate) fn make_state<A: Answers>(
     packet: &Packet,
     state: &State,

@@ -21,16 +21,17 @@ pub struct VisitedRules {
     pub filter: Visits,
 }
 
-/// What a packet comes to: what becomes of it, and what that changes.
+/// What a packet comes to: what becomes of it, and what it changes.
 #[derive(Drop)]
 pub struct Outcome {
-    /// None for what isn't looked at: no IPv4 packet, one that is too short, or one of an interface that isn't filtered.
+    /// None for what isn't looked at: a frame that is no IPv4 packet, a packet that is too short, or one of an
+    /// interface that isn't filtered.
     pub direction: Option<Direction>,
     pub verdict: Verdict,
     pub reason: Reason,
-    /// The filter rule that decided, or that of the packet's state.
+    /// The filter rule that decided, or the filter rule of the packet's state.
     pub rule: Option<RuleNumber>,
-    /// The translation rule that matched, or that of the packet's state.
+    /// The translation rule that matched, or the translation rule of the packet's state.
     pub translation: Option<RuleNumber>,
     /// The state that the packet was found to have, or that it makes.
     pub state: Option<StateNumber>,
@@ -51,7 +52,7 @@ impl VisitedRules {
         }
     }
 
-    /// These translation rules, and no filter rule.
+    /// Visited translation rules, and no filter rule.
     fn of_translation(alloc: Global, visits: Visits) -> VisitedRules
         ensures translation { result.translation ≡ visits }
         ensures filter { result.filter ≡ [] }
@@ -72,7 +73,7 @@ impl Outcome {
         Outcome::unseen(alloc, Verdict::Skip, Reason::NotIp)
     }
 
-    /// What a packet comes to that isn't looked at.
+    /// What a packet that isn't looked at comes to.
     pub(crate) fn unseen(alloc: Global, verdict: Verdict, reason: Reason) -> Outcome
         ensures { result ≡ spec.unseen verdict reason }
     {
@@ -89,7 +90,7 @@ impl Outcome {
         }
     }
 
-    /// Makes a fresh outcome what a packet comes to whose state is found and which doesn't fit.
+    /// Writes over a fresh outcome what a packet comes to whose state is found, but which doesn't fit.
     #[inline(always)]
     pub(crate) fn find_state(&mut self, direction: Direction, state: &State)
         requires { self.old ≡ spec.fresh }
@@ -103,8 +104,8 @@ impl Outcome {
         self.state = Some(state.number);
     }
 
-    /// What a packet comes to that a translation rule with `pass` translates: it isn't filtered, and passes unless it has IP
-    /// options. These translation rules were visited.
+    /// What a packet that a rule with `pass` translates comes to: it isn't filtered, and passes unless it has IP
+    /// options. `visits` are the translation rules that were visited.
     pub(crate) fn unfiltered(
         alloc: Global,
         direction: Direction,
@@ -129,7 +130,7 @@ impl Outcome {
         outcome
     }
 
-    /// What a packet comes to for which a translation rule has no port that is free.
+    /// What a packet comes to if its translation rule has no free port.
     pub(crate) fn exhausted(
         alloc: Global,
         direction: Direction,
@@ -161,7 +162,7 @@ impl Outcome {
         self.change = None;
     }
 
-    /// The packet is blocked instead where it would pass, has IP options, and these are not allowed.
+    /// The packet is blocked instead if it would pass, has IP options, and these aren't allowed.
     pub(crate) fn ask_leave(&mut self, packet: &Packet, allows_options: bool)
         ensures { self.new ≡ spec.without_leave packet.now allows_options self.old }
     {

@@ -14,9 +14,9 @@ use pfr_track::{Key, StateRules};
 pub struct Passage {
     pub wire: Key,
     pub stack: Key,
-    /// None where nothing is translated.
+    /// None if nothing is translated.
     pub translation: Option<RuleNumber>,
-    /// That rule says `pass`, so the packet isn't filtered.
+    /// Whether that rule says `pass`, so that the packet isn't filtered.
     pub passes: bool,
 }
 
@@ -30,7 +30,7 @@ fn has_ports(transport: &Transport) -> bool
     }
 }
 
-/// Another address at an end, and the port by the one that stands there. An identifier stays.
+/// An end with another address, and the port that the mapping gives for its own. An identifier stays.
 pub(crate) fn mapped_end(
     transport: &Transport,
     own: Endpoint,
@@ -70,8 +70,8 @@ impl Passage {
         }
     }
 
-    /// The passage of a packet with this key of which the end inside is translated: behind the firewall for one that comes in,
-    /// on the wire for one that goes out.
+    /// The passage of a packet whose end inside is translated: behind the firewall for a packet that comes in, on the
+    /// wire for one that goes out.
     pub(crate) fn mapped(direction: Direction, key: &Key, hit: &Hit, inside: Endpoint) -> Passage
         ensures { result ≡ spec.mapped_passage direction key.now hit.now inside }
     {
@@ -88,7 +88,7 @@ impl Passage {
         }
     }
 
-    /// The passage of a packet that goes out by a key on the wire that was picked.
+    /// The passage of a packet that goes out with a picked key on the wire.
     pub(crate) fn picked(key: &Key, hit: &Hit, wire: Key) -> Passage
         ensures { result ≡ spec.picked_passage key.now hit.now wire }
     {
@@ -109,8 +109,8 @@ impl Passage {
         Some(packet.translated(end_of(direction), to))
     }
 
-    /// What the state says of its rules that a packet of an interface makes, by the state that the deciding rule keeps. A translated
-    /// packet makes one whatever that rule says: it is bound by the ruleset's policy.
+    /// What the state that a packet makes says of its rules, by the state that the deciding rule keeps. If that rule
+    /// keeps none, a translated packet makes a state all the same, bound by the ruleset's policy.
     pub(crate) fn kept(
         &self,
         place: InterfacePlace,
@@ -136,7 +136,7 @@ impl Passage {
     }
 }
 
-/// To what a state is bound that is made on an interface.
+/// The interfaces to which a state made on an interface is bound.
 fn binding_by(policy: StatePolicy, place: InterfacePlace) -> Binding
     ensures { result ≡ spec.binding_by policy place }
 {

@@ -20,9 +20,9 @@ use std::alloc::AllocError;
 /// The ports that are tried for a connection.
 #[derive(Clone, Copy)]
 pub enum PortsTried {
-    /// One alone.
+    /// One port alone.
     One(Port),
-    /// Those of a range, from one of them on that is drawn.
+    /// The ports of a range, beginning with a drawn one.
     Among(PortRange),
 }
 
@@ -60,7 +60,7 @@ fn range_for(transport: &Transport, target: &NatAddress, own: Port) -> PortsTrie
     }
 }
 
-/// The ports that are tried for a packet with this port or identifier. Protocols without ports have 0 alone.
+/// The ports that are tried for a packet whose port or identifier is `own`. Protocols without ports have 0 alone.
 pub(crate) fn ports_for(transport: &Transport, target: &NatAddress, own: Port) -> PortsTried
     ensures { result ≡ spec.ports_for transport.now target.now own }
 {
@@ -71,7 +71,8 @@ pub(crate) fn ports_for(transport: &Transport, target: &NatAddress, own: Port) -
     }
 }
 
-/// The word that is drawn for a packet: the first of the ChaCha20 stream of its number (RFC 8439), under the run's seed.
+/// The word that is drawn for a packet: the first of the ChaCha20 stream of its number (RFC 8439), under the run's
+/// seed.
 #[tactic(auto, unfolding(crate::specs::Picks::word_of))]
 fn word_of(seed: &[u8; 32], number: u64) -> u32
     ensures { result ≡ spec.word_of seed.now number }
@@ -81,7 +82,7 @@ fn word_of(seed: &[u8; 32], number: u64) -> u32
     stream.next_word()
 }
 
-/// Where the ports of a range are cut by a drawn word.
+/// The port of a range at which a drawn word cuts the range.
 fn cut_of(range: PortRange, word: u32) -> u32
     ensures cut { result ≡ spec.cut_of range.low range.high word }
     ensures within { result ≤ 65535 }
@@ -108,7 +109,7 @@ impl Pick<'_> {
         }
     }
 
-    /// Tries the ports from the first one on up to an end.
+    /// Tries the ports from `first` up to `end`, without `end` itself.
     fn rising<A: Answers>(
         &self,
         first: u32,
@@ -129,7 +130,7 @@ impl Pick<'_> {
         Ok(None)
     }
 
-    /// Tries the ports below a bound down to the lowest.
+    /// Tries the ports below `bound`, down to `low`.
     fn falling<A: Answers>(
         &self,
         bound: u32,
@@ -152,7 +153,8 @@ impl Pick<'_> {
         Ok(None)
     }
 
-    /// The key with the first of these ports that is free. Where one is drawn it is by seed and packet number alone.
+    /// The key with the first of these ports that is free. If a port is drawn, it depends on seed and packet number
+    /// alone.
     pub(crate) fn picked<A: Answers>(
         &self,
         ports: PortsTried,

@@ -31,7 +31,7 @@ pub(crate) fn looked_up_on(tap: Tap, direction: Direction) -> Side
     }
 }
 
-/// Makes what a packet comes to whose state is found what it comes to as it is shown.
+/// Turns the outcome of a packet whose state is found into the outcome of the packet as it is shown.
 #[inline]
 pub(crate) fn show(tap: Tap, direction: Direction, outcome: &mut Outcome)
     ensures { outcome.new ≡ spec.as_shown tap direction outcome.old }

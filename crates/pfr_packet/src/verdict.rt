@@ -11,7 +11,7 @@ pub enum Verdict {
     Block,
     /// The packet is blocked, and an answer would be sent.
     Return,
-    /// The packet is no IPv4 packet, and passes unseen.
+    /// The frame is no IPv4 packet, and passes unseen.
     Skip,
 }
 
@@ -27,7 +27,7 @@ impl Verdict {
         }
     }
 
-    /// Whether the packet is written to the packets.
+    /// Whether the packet is written to the output of packets.
     pub fn is_written(self) -> bool
         ensures { result ≡ spec.is_written self }
     {
@@ -59,9 +59,9 @@ pub enum Reason {
     StateError,
     /// It has the key of a state, but doesn't belong to its connection now.
     StateMismatch,
-    /// It would make a state of which a key is another one's.
+    /// It would make a state, and another state has one of its keys.
     StateInsert,
-    /// It would make a state, and there are as many as there may be.
+    /// It would make a state, and there are as many as the limit allows.
     StateLimit,
     /// No port of the translation rule is free for it.
     NatExhausted,

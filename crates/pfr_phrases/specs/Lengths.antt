@@ -7,8 +7,8 @@ use Rattle.pfr_marks.specs.Marks.{begins_with, is}
 use Rattle.pfr_phrases.specs.declared.lengths.Takes.{Takes}
 use Rattle.pfr_phrases.specs.declared.lengths.Takes.TheVariants as takes
 
--- how many marks there are up to the first sign that closes a group, with it and those before; none if the line ends before it, or another
--- group is opened: no group stands in one of its kind
+-- how many marks there are up to the first sign that closes a group, with that sign and `before` others; none if the
+-- line ends first, or another group is opened: no group stands in one of its kind
 abbrev pub group_from : ℕ → (opens closes : List ℕ) → List Mark → ℕ
 group_from before opens closes [] = 0
 group_from before opens closes (mark ∷ marks) =
@@ -16,7 +16,7 @@ group_from before opens closes (mark ∷ marks) =
     else if is (codes "\n") mark || is opens mark then 0
     else group_from (before + 1) opens closes marks
 
--- how many marks the group has that the first of them opens
+-- how many marks the group has that the first mark opens
 abbrev pub group_len : (opens closes : List ℕ) → List Mark → ℕ
 group_len opens closes [] = 0
 group_len opens closes (first ∷ marks) = if is opens first then group_from 1 opens closes marks else 0
@@ -78,7 +78,7 @@ unfoldable pub is_key : List Mark → Bool
 is_key [] = false
 is_key (first ∷ marks) = starts_with nat_eq first.piece (codes "\"") || starts_with nat_eq first.piece (codes "0x")
 
--- how many marks go with the word before these, itself among them
+-- how many marks go with the word before `behind`, that word included
 unfoldable pub taken_len : Takes → List Mark → ℕ
 taken_len takes.Nothing behind = 1
 taken_len takes.State behind = if begins_with behind (codes "state") then 2 else 0

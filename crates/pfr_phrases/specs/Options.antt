@@ -12,7 +12,7 @@ use Rattle.pfr_phrases.specs.Phrases.{phrase_at}
 use Rattle.pfr_phrases.specs.Tables.{adaptive_timeouts, limits_of_anchors, options_of_states}
 use Rattle.pfr_words.specs.Names.{is_among}
 
--- the option that is left out at the front of marks, and how many it has
+-- the option at the front of marks that is left out, and how many marks it has
 unfoldable pub option_at : List Mark → Option (ℕ × Phrase)
 option_at marks = phrase_at options_of_states marks
 
@@ -23,11 +23,11 @@ len_of (Some found) = found.0
 unfoldable pub option_len : List Mark → ℕ
 option_len marks = len_of (option_at marks)
 
--- the timeout that goes by how many states there are at the front of marks, and how many it has
+-- the timeout at the front of marks that depends on the number of states, and how many marks it has
 unfoldable pub timeout_at : List Mark → Option (ℕ × Phrase)
 timeout_at marks = phrase_at adaptive_timeouts marks
 
--- the limit on which no verdict depends at the front of marks, and how many it has
+-- the limit at the front of marks on which no verdict depends, and how many marks it has
 unfoldable pub limit_at : List Mark → Option (ℕ × Phrase)
 limit_at marks = phrase_at limits_of_anchors marks
 
@@ -63,7 +63,7 @@ ends group.Limits mark = is (codes "}") mark
 abbrev pub is_comma : Mark → List Mark → Bool
 is_comma mark behind = is (codes ",") mark && not (begins_with behind (codes ")")) && not (begins_with behind (codes ","))
 
--- a mark stands between elements of a list, or before one, and is none
+-- a mark stands between elements of a list or before one, and belongs to none
 abbrev pub is_between : Group → Mark → List Mark → Bool
 is_between group.Options mark behind = is_comma mark behind
 is_between group.Timeouts mark behind = is (codes ",") mark || is (codes "\n") mark

@@ -4,7 +4,7 @@ use Rattle.pfr_phrases.specs.declared.reason.Kind.TheVariants as kind
 use Rattle.pfr_phrases.specs.declared.reason.Reason.{Reason}
 use Rattle.pfr_phrases.specs.declared.reason.Reason.TheVariants as reason
 
--- a note where no verdict of this program depends on what is rewritten
+-- a note if no verdict of this program depends on what is rewritten
 unfoldable pub kind_of : Reason → Kind
 kind_of reason.Modulated = kind.Note
 kind_of reason.Answer = kind.Note

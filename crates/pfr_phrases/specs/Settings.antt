@@ -14,7 +14,7 @@ unfoldable pub optimization_at : List Mark → Option Phrase
 optimization_at [] = None
 optimization_at (second ∷ marks) = entry_of timeouts_of_optimizations second.piece
 
--- the setting at the front of marks that is written otherwise, and how many it has
+-- the setting at the front of marks that is written otherwise, and how many marks it has
 unfoldable pub setting_at : List Mark → Option (ℕ × Phrase)
 setting_at [] = None
 setting_at (first ∷ marks) = if is (codes "optimization") first then two_of (optimization_at marks) else None

@@ -58,7 +58,7 @@ may_ask word = is_among words_that_ask word
 abbrev pub in_braces_behind : Bool → Mark → Bool
 in_braces_behind in_braces mark = if is (codes "{") mark then true else if is (codes "}") mark then false else in_braces
 
--- how many marks stand before the end of the line, which in braces is none
+-- how many marks stand before the end of the line; an end of line in braces is a mark like others
 abbrev pub statement_from : ℕ → Bool → List Mark → ℕ
 statement_from before in_braces [] = before
 statement_from before in_braces (mark ∷ marks) =
@@ -112,7 +112,7 @@ setting_left_out second behind =
     else if is (codes "limit") second && are_only group.Limits behind then Some reason.Setting
     else setting_reason second.piece
 
--- the second word of a statement as the one for which it is left out
+-- the second word of a statement, if the statement is left out for it
 abbrev pub second_left_out : Mark → List Mark → Option Finding
 second_left_out first [] = None
 second_left_out first (second ∷ marks) =

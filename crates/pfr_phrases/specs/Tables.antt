@@ -1,4 +1,5 @@
--- The words of pf.conf(5) that are written otherwise or left out by themselves: what goes with each, what stands in its place, and why.
+-- The words of pf.conf(5) that are written otherwise or left out by themselves: what goes with each, what stands in its
+-- place, and why.
 use Rattle.std.specs.Prelude.{ℕ, List, [], ◌∷◌, map, codes}
 use Rattle.pfr_phrases.specs.declared.change.Becomes.TheVariants as becomes
 use Rattle.pfr_phrases.specs.declared.change.Words.{Words}
@@ -40,7 +41,8 @@ timeouts_of_states =
     ∷ codes "other.first" ∷ codes "other.single" ∷ codes "other.multiple"
     ∷ codes "adaptive.start" ∷ codes "adaptive.end" ∷ codes "interval" ∷ codes "frag" ∷ codes "src.track" ∷ []
 
--- words in the brackets behind `keep state` (pf.conf(5), "Stateful tracking options"), but for those that the strict reader knows
+-- words in the brackets behind `keep state` (pf.conf(5), "Stateful tracking options"), but for those that the strict
+-- reader knows
 abbrev pub options_of_states : List (List ℕ × Phrase)
 options_of_states =
     (codes "max-src-nodes", gone takes.Value reason.Limit) ∷ (codes "max-src-states", gone takes.Value reason.Limit)
@@ -66,11 +68,11 @@ phrases_of_pools =
 abbrev pub phrases_of_files : List (List ℕ × Phrase)
 phrases_of_files = (codes "file", gone takes.Value reason.TableFile) ∷ []
 
--- a label, where a rule has one before (pf.conf(5), "label")
+-- a label, if the rule has one before it (pf.conf(5), "label")
 abbrev pub phrases_of_labels : List (List ℕ × Phrase)
 phrases_of_labels = (codes "label", gone takes.Value reason.Label) ∷ []
 
--- timeouts of `set timeout` that go by how many states there are (pf.conf(5), "set timeout")
+-- timeouts of `set timeout` that depend on the number of states (pf.conf(5), "set timeout")
 abbrev pub adaptive_timeouts : List (List ℕ × Phrase)
 adaptive_timeouts =
     (codes "adaptive.start", gone takes.Value reason.Adaptive) ∷ (codes "adaptive.end", gone takes.Value reason.Adaptive) ∷ []

@@ -44,14 +44,14 @@ abbrev pub piece_from : Option Piece → ℕ → List Piece → Option Piece
 piece_from found offset [] = found
 piece_from found offset (piece ∷ pieces) = piece_from (if begins_by piece offset then Some piece else found) offset pieces
 
--- in bytes that stand as they stood, `ahead` of which stand before the place. If its line begins in the piece, the line of the other text
--- begins as it does.
+-- a place in the kept bytes of a piece, `ahead` bytes behind its beginning; if its line begins in the piece, its line
+-- in the other text is `line`, with the same column
 abbrev pub kept_place : Piece → Place → (line ahead : ℕ) → Place
 kept_place piece place line ahead =
     if nat_le place.column ahead then record { offset = sum piece.old.offset ahead; line = line; column = place.column }
     else record { offset = sum piece.old.offset ahead; line = piece.old.line; column = sum piece.old.column ahead }
 
--- of what a change writes, the place at which the change is said
+-- a place in a piece; for what a change writes, the place at which the change is said
 abbrev pub place_in : Piece → Place → ℕ → Place
 place_in piece place line =
     if nat_lt (place.offset - piece.new) piece.kept then kept_place piece place line (place.offset - piece.new) else piece.said
@@ -60,6 +60,6 @@ abbrev pub place_by : Option Piece → Place → ℕ → Place
 place_by None place line = place
 place_by (Some piece) place line = place_in piece place line
 
--- the place in the other text of a place whose line comes from this line
+-- the place in the other text of a place whose line comes from `line`
 abbrev pub old_place : List Piece → Place → ℕ → Place
 old_place pieces place line = place_by (piece_from None place.offset pieces) place line

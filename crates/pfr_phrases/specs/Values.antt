@@ -19,7 +19,7 @@ service_port word = entry_of service_ports word
 unfoldable pub icmp_number : List ℕ → Option ℕ
 icmp_number word = entry_of icmp_numbers word
 
--- the number of a name where words say this
+-- the number of a name by what words say
 abbrev pub number_of : Says → List ℕ → Option ℕ
 number_of says.Protocol word = protocol_number word
 number_of says.Port word = service_port word
@@ -62,7 +62,7 @@ abbrev pub value_for : Option ℕ → Says → List ℕ → Option Phrase
 value_for (Some number) asked word = Some (record { 0 = takes.Nothing; 1 = becomes.Number number; 2 = reason.Name })
 value_for None asked word = short_network asked word
 
--- what a word is written as where words say this
+-- what a word is written as by what words say
 unfoldable pub value_phrase : Says → List ℕ → Option Phrase
 value_phrase asked word = value_for (number_of asked word) asked word
 

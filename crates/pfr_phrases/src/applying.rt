@@ -86,7 +86,7 @@ pub fn between(text: &[u8], from: usize, to: usize) -> &[u8]
 }
 
 impl NewText {
-    /// Nothing yet: one line, which comes from the first.
+    /// The empty text: one line, which comes from the first.
     pub(crate) fn new(alloc: Global) -> Result<NewText, AllocError>
         ensures { IfOk result (λ made. made ≡ spec.nothing) }
     {
@@ -98,7 +98,7 @@ impl NewText {
         })
     }
 
-    /// Puts bytes at the end that stand in the other text as they are, on a line and those behind it.
+    /// Puts bytes of the other text at the end as they are. They stand there from `line` on.
     pub(crate) fn keep(&mut self, line: usize, bytes: &[u8]) -> Result<(), AllocError>
         ensures { OnOk result (self.new ≡ spec.with_kept self.old line bytes.now) }
     {
@@ -113,7 +113,7 @@ impl NewText {
         Ok(())
     }
 
-    /// Puts the end of a line at the end; what is behind it comes from a line of the other text.
+    /// Puts the end of a line at the end; the line behind it comes from `line` of the other text.
     fn put_line(&mut self, line: usize) -> Result<(), AllocError>
         ensures { OnOk result (self.new ≡ spec.with_line self.old line) }
     {
@@ -122,7 +122,7 @@ impl NewText {
         Ok(())
     }
 
-    /// Puts ends of lines at the end that stand for a line of the other text and those behind it.
+    /// Puts `count` ends of lines at the end, which stand for `line` of the other text and those behind it.
     fn put_lines(&mut self, line: usize, count: usize) -> Result<(), AllocError>
         ensures { OnOk result (self.new ≡ spec.with_lines self.old line count) }
     {
@@ -136,7 +136,7 @@ impl NewText {
         Ok(())
     }
 
-    /// Puts a word at the end that has `count` zeros more, before its slash.
+    /// Puts a word at the end, with `count` zeros more before its slash.
     fn put_with_zeros(&mut self, word: &[u8], count: usize) -> Result<(), AllocError>
         ensures { OnOk result (self.new ≡ spec.with_words self.old (spec.word_with_zeros count word.now)) }
     {
@@ -155,7 +155,7 @@ impl NewText {
         self.text.extend_from_slice(digits.as_slice())
     }
 
-    /// Puts the words at the end that stand for a word.
+    /// Puts at the end what is written in the place of a word.
     fn put_words(&mut self, becomes: Becomes, word: &[u8]) -> Result<(), AllocError>
         ensures { OnOk result (self.new ≡ spec.with_words self.old (spec.written becomes word.now)) }
     {
@@ -177,7 +177,7 @@ impl NewText {
         Ok(())
     }
 
-    /// Puts a text at the end that stands for a line of the other text.
+    /// Puts a text at the end, all lines of which come from `line` of the other text.
     fn put_text(&mut self, line: usize, bytes: &[u8]) -> Result<(), AllocError>
         ensures { OnOk result (self.new ≡ spec.with_text self.old line bytes.now) }
     {
@@ -219,7 +219,8 @@ impl NewText {
     }
 }
 
-/// The text that changes make of a text: what they name goes, what they write stands in its place, and all else is as it was.
+/// The text that changes make of a text: what they name goes, what they write stands in its place, and all else is as
+/// it was.
 #[tactic(auto, unfolding(crate::specs::Applying::rewritten))]
 pub fn rewritten(alloc: Global, text: &[u8], changes: &[Change<'_>]) -> Result<NewText, AllocError>
     ensures { IfOk result (λ made. made ≡ spec.rewritten text.now changes.now) }

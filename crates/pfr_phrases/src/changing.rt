@@ -77,7 +77,7 @@ pub fn change_of<'a>(
     })
 }
 
-/// The first of two phrases that is there; each has `most` marks at most.
+/// The first phrase, or else the second; each has `most` marks at most.
 fn first_of(
     most: usize,
     first: Option<(usize, Phrase)>,
@@ -125,7 +125,7 @@ fn phrase_change<'a>(context: Context, marks: &[Mark<'a>]) -> Option<Found<'a>>
     change_of(context, word, marks, len, phrase)
 }
 
-/// How many signs stand before an option that go with it: a comma, or an open bracket.
+/// How many signs before an option go with it: a comma, or an open bracket.
 fn lead_len(marks: &[Mark<'_>]) -> usize
     ensures value { result ≡ spec.lead_len marks.now }
     ensures within { result ≤ length marks.now }
@@ -137,7 +137,8 @@ fn lead_len(marks: &[Mark<'_>]) -> usize
     }
 }
 
-/// How many signs behind an option go with it: the bracket's end, if it holds nothing else, or a comma, if none went before.
+/// How many signs behind an option go with it: the bracket's end, if it holds nothing else, or a comma, if none went
+/// before.
 fn trail_len(emptied: bool, takes_comma: bool, behind: &[Mark<'_>]) -> usize
     ensures value { result ≡ spec.trail_len emptied takes_comma behind.now }
     ensures within { result ≤ length behind.now }
@@ -224,7 +225,7 @@ fn comma_len(behind: &[Mark<'_>]) -> usize
     }
 }
 
-/// How many marks stand before an element that go with it: a comma, and the ends of lines behind it.
+/// How many marks before an element go with it: a comma, and the ends of lines behind it.
 pub fn comma_before(marks: &[Mark<'_>]) -> usize
     ensures value { result ≡ spec.comma_before marks.now }
     ensures within { result ≤ length marks.now }
@@ -258,7 +259,8 @@ fn lines_between(start: Place, end: Place) -> Becomes
     }
 }
 
-/// An element of a list that begins behind `lead` of these marks, as a change of them, with the comma behind it if none is before.
+/// An element of a list that begins behind `lead` of these marks, as a change of them, with the comma behind it if none
+/// is before.
 fn element_in<'a>(
     context: Context,
     group: Group,
@@ -284,7 +286,8 @@ fn element_in<'a>(
     )
 }
 
-/// An element of `len` marks that begins behind `lead` of these marks, as a change of them, with the comma behind it if none is before.
+/// An element of `len` marks that begins behind `lead` of these marks, as a change of them, with the comma behind it if
+/// none is before.
 pub fn element_of<'a>(
     context: Context,
     reason: Reason,

@@ -159,7 +159,7 @@ impl Context {
         Context { behind, ..self }
     }
 
-    /// What stands round the word behind the first of these marks, of which this stands round the first.
+    /// What stands round the word behind the first of these marks, if `self` stands round the first.
     #[tactic(auto, unfolding(crate::specs::Contexts::context_behind))]
     pub fn behind(self, marks: &[Mark<'_>]) -> Context
         ensures { result ≡ spec.context_behind self marks.now }
@@ -295,7 +295,8 @@ impl Within {
 }
 
 impl Says {
-    /// Behind a word: what it asks for, nothing if it is another word of the grammar, and the same as before behind all others.
+    /// Behind a word: what it asks for, nothing if it is another word of the grammar, and the same as before behind all
+    /// others.
     #[tactic(auto, unfolding(crate::specs::Contexts::says_behind))]
     fn behind(self, word: &[u8]) -> Says
         ensures { result ≡ spec.says_behind self word.now }

@@ -47,8 +47,8 @@ fn is_no_value(word: &[u8]) -> bool
     is_among(&NO_VALUES, word)
 }
 
-/// How many marks there are up to the first sign that closes a group, with it and the one before these; none if the line ends before
-/// it, or another group of the kind is opened.
+/// How many marks there are up to the first sign that closes a group, with that sign and the one that opened the group;
+/// none if the line ends first, or another group of the kind is opened.
 fn group_behind(opens: &[u8], closes: &[u8], behind: &[Mark<'_>]) -> usize
     ensures value { result ≡ spec.group_from 1 opens.now closes.now behind.now }
     ensures within { result ≤ 1 + length behind.now }
@@ -64,7 +64,7 @@ fn group_behind(opens: &[u8], closes: &[u8], behind: &[Mark<'_>]) -> usize
     0
 }
 
-/// How many marks the group has that the first of them opens; none if it opens none, or nothing closes it.
+/// How many marks the group at the front has; none if the first mark opens none, or nothing closes it.
 fn group_len(opens: &[u8], closes: &[u8], marks: &[Mark<'_>]) -> usize
     ensures value { result ≡ spec.group_len opens.now closes.now marks.now }
     ensures within { result ≤ length marks.now }
@@ -112,7 +112,7 @@ pub(crate) fn newlines_len(marks: &[Mark<'_>]) -> usize
     marks.len()
 }
 
-/// How many marks there are of a word and the value behind it; none if there is no value.
+/// How many marks a word and the value behind it have; none if there is no value.
 fn with_value(value: usize) -> usize
     requires { value < 4611686018427387904 }
     ensures { result ≡ spec.with_value value }
@@ -120,7 +120,7 @@ fn with_value(value: usize) -> usize
     if value == 0 { 0 } else { value + 1 }
 }
 
-/// How many marks go with the word before these, itself among them; none if what it takes isn't there.
+/// How many marks go with the word before `behind`, that word included; none if what it takes isn't there.
 #[tactic(auto, unfolding(crate::specs::Lengths::taken_len))]
 pub(crate) fn taken_len(takes: Takes, behind: &[Mark<'_>]) -> usize
     ensures value { result ≡ spec.taken_len takes behind.now }

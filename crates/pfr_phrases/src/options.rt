@@ -7,7 +7,7 @@ use crate::phrases::{ADAPTIVE_TIMEOUTS, LIMITS, Phrase, STATE_OPTIONS, phrase_at
 use pfr_marks::mark::{Mark, begins_with, is};
 use pfr_words::names::is_among;
 
-/// The option that is left out at the front of marks, and how many it has.
+/// The option at the front of marks that is left out, and how many marks it has.
 #[tactic(auto, unfolding(crate::specs::Options::option_at))]
 pub(crate) fn option_at(marks: &[Mark<'_>]) -> Option<(usize, Phrase)>
     ensures value { result ≡ spec.option_at marks.now }
@@ -28,7 +28,7 @@ fn len_of(most: usize, found: Option<(usize, Phrase)>) -> usize
     }
 }
 
-/// How many marks an option has that is left out; none if there is none at the front.
+/// How many marks the option at the front has, if it is left out; else none.
 #[tactic(auto, unfolding(crate::specs::Options::option_len))]
 fn option_len(marks: &[Mark<'_>]) -> usize
     ensures value { result ≡ spec.option_len marks.now }
@@ -55,7 +55,7 @@ pub enum Group {
 /// Words among addresses that ask for what packets don't show.
 const NO_ADDRESSES: [&[u8]; 2] = [b"no-route", b"urpf-failed"];
 
-/// The timeout that goes by how many states there are at the front of marks, and how many it has.
+/// The timeout at the front of marks that depends on the number of states, and how many marks it has.
 #[tactic(auto, unfolding(crate::specs::Options::timeout_at))]
 fn timeout_at(marks: &[Mark<'_>]) -> Option<(usize, Phrase)>
     ensures value { result ≡ spec.timeout_at marks.now }
@@ -64,7 +64,7 @@ fn timeout_at(marks: &[Mark<'_>]) -> Option<(usize, Phrase)>
     phrase_at(&ADAPTIVE_TIMEOUTS, marks)
 }
 
-/// The limit on which no verdict depends at the front of marks, and how many it has.
+/// The limit at the front of marks on which no verdict depends, and how many marks it has.
 #[tactic(auto, unfolding(crate::specs::Options::limit_at))]
 fn limit_at(marks: &[Mark<'_>]) -> Option<(usize, Phrase)>
     ensures value { result ≡ spec.limit_at marks.now }
@@ -85,7 +85,7 @@ pub(crate) fn is_no_address(marks: &[Mark<'_>]) -> bool
     }
 }
 
-/// How many marks the element has that is left out for its address; none if there is none at the front.
+/// How many marks the element at the front has, if it is left out for its address; else none.
 fn unseen_len(marks: &[Mark<'_>]) -> usize
     ensures value { result ≡ spec.unseen_len marks.now }
     ensures within { result ≤ length marks.now }
@@ -97,7 +97,7 @@ fn unseen_len(marks: &[Mark<'_>]) -> usize
     }
 }
 
-/// How many marks the element at the front has that is left out; none if there is none.
+/// How many marks the element at the front has, if it is left out; else none.
 pub fn element_len(group: Group, marks: &[Mark<'_>]) -> usize
     ensures value { result ≡ spec.element_len group marks.now }
     ensures within { result ≤ length marks.now }
@@ -128,7 +128,7 @@ fn is_comma(mark: &Mark<'_>, behind: &[Mark<'_>]) -> bool
     is(mark, b",") && !begins_with(behind, b")") && !begins_with(behind, b",")
 }
 
-/// Whether a mark stands between elements of a list, or before one, and is none.
+/// Whether a mark stands between elements of a list or before one, and belongs to none.
 fn is_between(group: Group, mark: &Mark<'_>, behind: &[Mark<'_>]) -> bool
     ensures { result ≡ spec.is_between group mark.now behind.now }
 {

@@ -225,7 +225,7 @@ pub(crate) const STATE_OPTIONS: [(&[u8], Phrase); 28] = [
     ),
 ];
 
-/// The limits of `set limit` of which no verdict depends, and which the strict reader doesn't know.
+/// The limits of `set limit` on which no verdict depends, and which the strict reader doesn't know.
 pub(crate) const LIMITS: [(&[u8], Phrase); 2] = [
     (
         b"anchors",
@@ -268,13 +268,13 @@ const FILE_PHRASES: [(&[u8], Phrase); 1] = [(
     Phrase(Takes::Value, Becomes::Nothing, Reason::TableFile),
 )];
 
-/// A label, where a rule has one before.
+/// A label, if the rule has one before it.
 const LABEL_PHRASES: [(&[u8], Phrase); 1] = [(
     b"label",
     Phrase(Takes::Value, Becomes::Nothing, Reason::Label),
 )];
 
-/// The timeouts of `set timeout` that go by how many states there are.
+/// The timeouts of `set timeout` that depend on the number of states.
 pub(crate) const ADAPTIVE_TIMEOUTS: [(&[u8], Phrase); 2] = [
     (
         b"adaptive.start",
@@ -298,7 +298,7 @@ pub(crate) fn phrase_at(table: &[(&[u8], Phrase)], marks: &[Mark<'_>]) -> Option
     if len == 0 { None } else { Some((len, phrase)) }
 }
 
-/// The word behind a target that is left out at the front of marks, and how many it has.
+/// The word behind a target at the front of marks that is left out, and how many marks it has.
 #[tactic(auto, unfolding(crate::specs::Phrases::pool_phrase_at))]
 pub(crate) fn pool_phrase_at(marks: &[Mark<'_>]) -> Option<(usize, Phrase)>
     ensures value { result ≡ spec.pool_phrase_at marks.now }
@@ -316,7 +316,7 @@ pub fn file_phrase_at(marks: &[Mark<'_>]) -> Option<(usize, Phrase)>
     phrase_at(&FILE_PHRASES, marks)
 }
 
-/// The label at the front of marks, and how many it has.
+/// The label at the front of marks, and how many marks it has.
 #[tactic(auto, unfolding(crate::specs::Phrases::label_phrase_at))]
 pub(crate) fn label_phrase_at(marks: &[Mark<'_>]) -> Option<(usize, Phrase)>
     ensures value { result ≡ spec.label_phrase_at marks.now }
@@ -325,7 +325,7 @@ pub(crate) fn label_phrase_at(marks: &[Mark<'_>]) -> Option<(usize, Phrase)>
     phrase_at(&LABEL_PHRASES, marks)
 }
 
-/// The word of a rule that is rewritten at the front of marks, and how many it has.
+/// The word of a rule at the front of marks that is rewritten, and how many marks it has.
 #[tactic(auto, unfolding(crate::specs::Phrases::rule_phrase_at))]
 pub(crate) fn rule_phrase_at(marks: &[Mark<'_>]) -> Option<(usize, Phrase)>
     ensures value { result ≡ spec.rule_phrase_at marks.now }

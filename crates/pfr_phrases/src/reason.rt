@@ -39,7 +39,7 @@ pub enum Reason {
     /// `ridentifier`, `tracker`.
     #[error("a number for programs that read the rules: left out")]
     Identifier,
-    /// A `set` of which no verdict depends.
+    /// A `set` on which no verdict depends.
     #[error("no verdict depends on this setting: left out")]
     Setting,
     /// `inet6`, `icmp6-type`.

@@ -54,7 +54,7 @@ fn optimization_at(marks: &[Mark<'_>]) -> Option<Phrase>
     entry_of(&OPTIMIZATIONS, marks.first()?.piece.as_slice())
 }
 
-/// The setting at the front of marks that is written otherwise, and how many it has.
+/// The setting at the front of marks that is written otherwise, and how many marks it has.
 #[tactic(auto, unfolding(crate::specs::Settings::setting_at))]
 pub(crate) fn setting_at(marks: &[Mark<'_>]) -> Option<(usize, Phrase)>
     ensures value { result ≡ spec.setting_at marks.now }

@@ -52,7 +52,7 @@ const ASKING: [&[u8]; 8] = [
     b"antispoof",
 ];
 
-/// Why the statement is left out that a word begins, whatever is behind it.
+/// Why the statement that a word begins is left out, whatever is behind it.
 #[tactic(auto, unfolding(crate::specs::Statements::statement_reason))]
 fn statement_reason(word: &[u8]) -> Option<Reason>
     ensures { result ≡ spec.statement_reason word.now }
@@ -68,7 +68,7 @@ fn setting_reason(word: &[u8]) -> Option<Reason>
     entry_of(&SETTINGS, word)
 }
 
-/// Why a rule is left out that has a word.
+/// Why a rule with this word is left out.
 #[tactic(auto, unfolding(crate::specs::Statements::criterion_reason))]
 fn criterion_reason(word: &[u8]) -> Option<Reason>
     ensures { result ≡ spec.criterion_reason word.now }
@@ -187,7 +187,7 @@ fn setting_left_out(second: &Mark<'_>, behind: &[Mark<'_>]) -> Option<Reason>
     setting_reason(second.piece.as_slice())
 }
 
-/// The second word of a statement as the one for which it is left out.
+/// The second word of a statement, if the statement is left out for it.
 fn second_left_out<'a>(first: &Mark<'a>, behind: &[Mark<'a>]) -> Option<Finding<'a>>
     ensures { result ≡ spec.second_left_out first.now behind.now }
 {
@@ -222,8 +222,8 @@ fn left_out_in<'a>(statement: &[Mark<'a>]) -> Option<Finding<'a>>
     }
 }
 
-/// Whether the statement at the front of marks may be left out, by its first word. No statement is looked at whole for a bracket or a
-/// brace before it.
+/// Whether the statement at the front of marks may be left out, by its first word. If it may not, as with a bracket or
+/// a brace before that word, it isn't read whole.
 fn may_be_left_out(marks: &[Mark<'_>]) -> bool
     ensures { result ≡ spec.may_be_left_out marks.now }
 {

@@ -92,8 +92,8 @@ pub fn piece_at(pieces: &[Piece], offset: usize) -> Option<Piece>
     found
 }
 
-/// The place in the other text of a place in bytes of a piece that stand as they stood, with `ahead` of them before it. The line of the
-/// other text is the one that the place's line comes from, if that line begins in the piece.
+/// The place in the other text of a place in the kept bytes of a piece, `ahead` bytes behind its beginning. If the
+/// place's line begins in the piece, its line in the other text is `line`.
 fn kept_place(piece: Piece, place: Place, line: usize, ahead: usize) -> Place
     ensures { result ≡ spec.kept_place piece place line ahead }
 {
@@ -112,7 +112,8 @@ fn kept_place(piece: Piece, place: Place, line: usize, ahead: usize) -> Place
     }
 }
 
-/// The place in the other text of a place in a piece, whose line comes from this line: of what a change writes, where the change is said.
+/// The place in the other text of a place in a piece, whose line comes from `line`. For what a change writes it is the
+/// place at which the change is said.
 fn place_in(piece: Piece, place: Place, line: usize) -> Place
     ensures { result ≡ spec.place_in piece place line }
 {
@@ -124,8 +125,8 @@ fn place_in(piece: Piece, place: Place, line: usize) -> Place
     }
 }
 
-/// The place in the other text of a place in a text of these pieces, whose line comes from this line; the place itself if there are no
-/// pieces.
+/// The place in the other text of a place in a text of these pieces, whose line comes from `line`; the place itself if
+/// there are no pieces.
 pub fn old_place(pieces: &[Piece], place: Place, line: usize) -> Place
     ensures { result ≡ spec.old_place pieces.now place line }
 {

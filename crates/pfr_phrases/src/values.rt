@@ -185,7 +185,7 @@ fn icmp_number(word: &[u8]) -> Option<u16>
     entry_of(&ICMP_TYPES, word)
 }
 
-/// The number of a name where words say this: of a protocol, a service, or a type or code of ICMP.
+/// The number of a name by what words say: of a protocol, a service, or a type or code of ICMP.
 pub fn number_of(says: Says, word: &[u8]) -> Option<u16>
     ensures { result ≡ spec.number_of says word.now }
 {
@@ -218,7 +218,8 @@ pub(crate) fn count_of(byte: u8, text: &[u8]) -> usize
     count
 }
 
-/// Whether a text is digits, dots and slashes, each dot and slash between two digits; by whether a digit stands before it.
+/// Whether a text is digits, dots and slashes, each dot and slash between two digits; by whether a digit stands before
+/// it.
 fn are_parts(behind_digit: bool, text: &[u8]) -> bool
     ensures { result ≡ spec.are_parts behind_digit text.now }
 {
@@ -232,7 +233,8 @@ fn are_parts(behind_digit: bool, text: &[u8]) -> bool
     digit
 }
 
-/// Whether a word is a network of which not all four parts are written, as `10/8`: digits, fewer than three dots, one slash.
+/// Whether a word is a network of which not all four parts are written, as `10/8`: digits, fewer than three dots, one
+/// slash.
 fn is_short_network(word: &[u8]) -> bool
     ensures { result ≡ spec.is_short_network word.now }
 {
@@ -265,7 +267,7 @@ fn short_network(says: Says, word: &[u8]) -> Option<Phrase>
     }
 }
 
-/// What a word is written as where words say this, if it isn't as the strict reader wants it.
+/// What a word is written as, by what words say, if it isn't as the strict reader wants it.
 #[tactic(auto, unfolding(crate::specs::Values::value_phrase))]
 pub(crate) fn value_phrase(says: Says, word: &[u8]) -> Option<Phrase>
     ensures { result ≡ spec.value_phrase says word.now }

@@ -141,7 +141,7 @@ module _ {T : Type 0} where
   placed_same old new number None same = refl
   placed_same old new number (Some p) same = ap (placed_with number p) (same p.0 (eq-eqb p.0 p.0 refl))
 
-  -- where it has the same at the indexes that entries say, the same stands there
+  -- if it has the same at the indexes that entries say, the same stands there
   pub standing_same : (old new : ℕ → Option T) (es : List Ordered) → ((index : ℕ) → list_any (is_entry_at index) es ≡ true → new index ≡ old index) → standing new es ≡ standing old es
   standing_same old new [] same = refl
   standing_same old new (e ∷ es) same =

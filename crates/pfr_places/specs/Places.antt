@@ -1,4 +1,4 @@
--- Values by rising numbers, each at a place of its own, as the list of them in the order of their numbers.
+-- Values by rising numbers, each at a place of its own: the list of the values in the order of their numbers.
 use Rattle.std.specs.Prelude.{ℕ, ◌==◌, ◌&&◌, Bool, true, not, nat_lt, if◌then◌else◌, List, [], ◌∷◌, map, Option, Some, None}
 use Rattle.std.specs.List.{filter, find, list_all, list_any}
 use Rattle.std.specs.Option.{option_map}
@@ -35,16 +35,16 @@ module _ {T : Type 0} where
   abbrev pub at : Place → List (Placed T) → Option (Placed T)
   at place all = find (is_at place) all
 
-  -- the one of a number
+  -- the one with a number
   abbrev pub of_number : ℕ → List (Placed T) → Option (Placed T)
   of_number number all = find (is_number number) all
 
-  -- the one of the least number
+  -- the one with the least number
   abbrev pub first : List (Placed T) → Option (Placed T)
   first [] = None
   first (placed ∷ others) = Some placed
 
-  -- the one of the least number above another one
+  -- the one with the least number above another
   abbrev pub after : ℕ → List (Placed T) → Option (Placed T)
   after number all = find (λ placed. nat_lt number placed.number) all
 
@@ -66,6 +66,6 @@ module _ {T : Type 0} where
   abbrev pub with_value : Place → T → List (Placed T) → List (Placed T)
   with_value place value all = map (λ placed. if is_at place placed then record placed { value = value } else placed) all
 
-  -- without the one of a number
+  -- without the one with a number
   abbrev pub without : ℕ → List (Placed T) → List (Placed T)
   without number all = filter (λ placed. not (is_number number placed)) all

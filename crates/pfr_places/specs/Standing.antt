@@ -50,7 +50,7 @@ pub record IsRankFor (number at : ℕ) (order : List Ordered) : Type 0 where
   pub within : at ≤ length order
   pub between : IsBetween number (take at order) (drop at order)
 
--- the entries from this index on are those above the number
+-- the entries from this index on are those with greater numbers
 pub record IsFrom (number from : ℕ) (order : List Ordered) : Type 0 where
   pub within : from ≤ length order
   pub before : list_all (λ entry. not (is_above number entry)) (take from order) ≡ true
@@ -71,7 +71,7 @@ module _ {T : Type 0} where
   placed_at holds number None = None
   placed_at holds number (Some place) = placed_with number place (holds place.0)
 
-  -- what stands where an entry says
+  -- what stands at the place of an entry
   abbrev pub placed_of : (ℕ → Option T) → Ordered → Option (Placed T)
   placed_of holds entry = placed_at holds entry.number entry.place
 
@@ -79,12 +79,12 @@ module _ {T : Type 0} where
   with_first None others = others
   with_first (Some placed) others = placed ∷ others
 
-  -- all that stands where entries say
+  -- all that stands at the places of entries
   abbrev pub standing : (ℕ → Option T) → List Ordered → List (Placed T)
   standing holds [] = []
   standing holds (entry ∷ others) = with_first (placed_of holds entry) (standing holds others)
 
-  -- a slab holds its values just where entries say
+  -- a slab holds its values at the places of the entries, and nowhere else
   pub record AreStanding (values : List (Option T)) (order : List Ordered) (count : ℕ) : Type 0 where
     pub in_order : numbers_rise order ≡ true
     pub own_indexes : HaveOwnIndexes order

@@ -24,13 +24,13 @@ fn is_last(order: &[Ordered], number: u64) -> bool
     }
 }
 
-/// The index of the entry of a number, or the index before which one of that number belongs.
+/// The index of the entry of a number, or else the index before which an entry of that number belongs.
 pub(crate) fn search(order: &[Ordered], number: u64) -> Result<usize, usize>
     requires { numbers_rise order.now ≡ true }
     ensures found { IfOk result (λ at. IsRankOf number at order.now) }
     ensures absent { IfErr result (λ at. IsRankFor number at order.now) }
 {
-    // New numbers are mostly the greatest so far.
+    // New numbers are mostly greater than all others.
     if is_last(order, number) {
         return Err(order.len());
     }
@@ -47,7 +47,7 @@ pub(crate) fn search(order: &[Ordered], number: u64) -> Result<usize, usize>
     }
 }
 
-/// Gives a place to a number that has none. Where memory is refused nothing changes.
+/// Gives a place to a number that has none. If memory is refused, nothing changes.
 pub(crate) fn put(order: &mut Vec<Ordered>, number: u64, place: Place) -> Result<(), AllocError>
     requires { numbers_rise order.old.items ≡ true }
     ensures done { OnOk result (IsPut number place order.old.items order.new.items) }
@@ -92,7 +92,7 @@ pub(crate) fn take(order: &mut Vec<Ordered>, number: u64) -> Option<Place>
     }
 }
 
-/// The index from which on the entries are those above a number.
+/// The index from which on the entries have numbers above `number`.
 pub(crate) fn start_above(order: &[Ordered], number: u64) -> usize
     requires { numbers_rise order.now ≡ true }
     ensures { IsFrom number result order.now }

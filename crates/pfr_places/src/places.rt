@@ -10,14 +10,14 @@ use std::alloc::{AllocError, Global};
 use std::marker::Model;
 
 /// Values by rising numbers, each at a place of its own where it stays until it is removed. Contracts see the list of
-/// them by rising number.
+/// the values in the order of their numbers.
 #[derive(Drop)]
 pub struct Places<T: Copy> {
     // What stands at each place.
     values: Vec<Option<T>>,
-    // Places that were given up, the last one last. These are mere hints: each is looked at before it is used.
+    // Places that were given up, the last one last. They are mere hints: each is looked at before it is used.
     vacant: Vec<Place>,
-    // The numbers, each with its place. One that was removed stays, with no place, until the list is swept.
+    // The numbers, each with its place. A number whose value was removed stays, with no place, until the list is swept.
     order: Vec<Ordered>,
     // How many values there are.
     count: usize,
@@ -65,7 +65,7 @@ impl<T: Copy> Places<T> {
         value_at(&self.values, place)
     }
 
-    /// The place of the value of a number.
+    /// The place of the value with a number.
     pub fn place_of(&self, number: u64) -> Option<Place>
         ensures { result ≡ spec.place_of (spec.of_number number self.now) }
     {
@@ -75,14 +75,14 @@ impl<T: Copy> Places<T> {
         }
     }
 
-    /// The value of the least number.
+    /// The value with the least number.
     pub fn first(&self) -> Option<&T>
         ensures { option_copied result ≡ spec.value_of (spec.first self.now) }
     {
         first_value(&self.values, &self.order, 0)
     }
 
-    /// The value of the least number above this one.
+    /// The value with the least number above `number`.
     pub fn after(&self, number: u64) -> Option<&T>
         ensures { option_copied result ≡ spec.value_of (spec.after number self.now) }
     {
@@ -90,7 +90,8 @@ impl<T: Copy> Places<T> {
         first_value(&self.values, &self.order, from)
     }
 
-    /// Drops the numbers whose values are gone where the list of numbers is full and at least half of it is gone.
+    /// Drops the numbers whose values are gone, if the list of numbers is full and at least half of its values are
+    /// gone.
     fn sweep(&mut self)
         ensures { self.new ≡ self.old }
     {
@@ -109,8 +110,8 @@ impl<T: Copy> Places<T> {
             .reserve(places.saturating_sub(self.vacant.len()))
     }
 
-    /// Puts a value of a new number at a place of its own. Where memory is refused nothing changes. It is refused as well
-    /// where 4294967294 places are taken, as many as an index of 32 bits has room for.
+    /// Puts a value with a new number at a place of its own. If memory is refused, nothing changes. It is refused as
+    /// well if 4294967294 places are taken, as many as an index of 32 bits has room for.
     // A call would copy the value once more.
     #[inline(always)]
     pub fn insert(&mut self, number: u64, value: T) -> Result<Place, AllocError>
@@ -123,14 +124,14 @@ impl<T: Copy> Places<T> {
         self.sweep();
         self.reserve()?;
         let place = make_vacant(&mut self.values, &mut self.vacant)?;
-        // There is room for the number, so that no place is lost to a refusal here.
+        // There is room for the number, so no place is lost to a refusal here.
         put(&mut self.order, number, place)?;
         self.values[place.0 as usize] = Some(value);
         self.count += 1;
         Ok(place)
     }
 
-    /// Puts another value at a place; where nothing stands there, nothing changes.
+    /// Puts another value at a place; if nothing stands there, nothing changes.
     #[inline]
     pub fn set(&mut self, place: Place, value: T)
         ensures { self.new ≡ spec.with_value place value self.old }
@@ -138,15 +139,15 @@ impl<T: Copy> Places<T> {
         replace(&mut self.values, place, value);
     }
 
-    /// Takes the value of a number out, if there is one. It takes no memory.
+    /// Takes the value with a number out, if there is one. It takes no memory.
     pub fn remove(&mut self, number: u64)
         ensures { self.new ≡ spec.without number self.old }
     {
         if let Some(place) = take(&mut self.order, number) {
             self.values[place.0 as usize] = None;
             self.count -= 1;
-            // There is room for the hint since values were put in, for as many as there are places. Without the hint the
-            // place would only never be used again.
+            // There is room for the hint since values were put in, for as many as there are places. Without the hint
+            // the place would only never be used again.
             let _ = self.vacant.push(place);
         }
     }

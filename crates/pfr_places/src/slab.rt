@@ -8,7 +8,8 @@ use crate::order::Ordered;
 use crate::place::Place;
 use std::alloc::AllocError;
 
-/// How many places a slab has at most. Two indexes of 32 bits stay free, by which callers can tell that there is none.
+/// How many places a slab has at most. Two indexes of 32 bits stay free, with which callers can say that there is no
+/// place.
 const MOST: usize = 4294967294;
 
 /// What stands at a place.
@@ -22,7 +23,7 @@ pub(crate) fn value_at<T: Copy>(values: &[Option<T>], place: Place) -> Option<&T
     }
 }
 
-/// Puts another value at a place; where nothing stands there, nothing changes.
+/// Puts another value at a place; if nothing stands there, nothing changes.
 #[inline]
 pub(crate) fn replace<T: Copy>(values: &mut Vec<Option<T>>, place: Place, value: T)
     ensures there { is_some (held values.old.items place.0) ≡ true → values.new.items ≡ slice_set values.old.items place.0 (Some value) }
@@ -35,7 +36,7 @@ pub(crate) fn replace<T: Copy>(values: &mut Vec<Option<T>>, place: Place, value:
     }
 }
 
-/// What stands where an entry says.
+/// The value at the place of an entry, if there is one.
 fn value_of_entry<'a, T: Copy>(values: &'a [Option<T>], entry: &Ordered) -> Option<&'a T>
     ensures { option_copied result ≡ value_of (placed_of (held values.now) entry.now) }
 {
@@ -45,7 +46,7 @@ fn value_of_entry<'a, T: Copy>(values: &'a [Option<T>], entry: &Ordered) -> Opti
     }
 }
 
-/// The first of the values that stand where the entries from an index on say.
+/// The first value that stands at the place of an entry, of the entries from index `from` on.
 pub(crate) fn first_value<'a, T: Copy>(
     values: &'a [Option<T>],
     order: &[Ordered],
@@ -75,8 +76,8 @@ fn is_vacant<T: Copy>(values: &[Option<T>], place: Place) -> bool
     }
 }
 
-/// A place where nothing stands: the last one that was given up, or else a new one behind all others. Memory is refused
-/// for a new one where the slab has as many places as an index of 32 bits tells apart.
+/// A place where nothing stands: the last one that was given up, or else a new one behind all others. A new one is
+/// refused if the slab has as many places as an index of 32 bits tells apart.
 pub(crate) fn make_vacant<T: Copy>(
     values: &mut Vec<Option<T>>,
     vacant: &mut Vec<Place>,

@@ -78,8 +78,8 @@ fn add_all_forms(
     Ok(())
 }
 
-/// Adds the forms of an interface for the group of which it is a member: those of the run's interface of its name, or else as flags say its
-/// address.
+/// Adds the forms of an interface for the group of which it is a member. They are the forms of the run's interface of
+/// that name, or if there is none, those of the addresses that flags say.
 fn add_group_forms(
     given: &mut Given,
     alloc: Global,

@@ -22,7 +22,7 @@ impl From<AllocError> for Refusal<'_> {
     }
 }
 
-/// How many bytes of a file are read that has a ruleset's text: one more than such a text may have.
+/// How many bytes of a ruleset's file are read at most: one more than a ruleset's text may have.
 pub(crate) const MOST_OF_TEXT: u64 = LONGEST_TEXT as u64 + 1;
 
 /// How many bytes of other files are read: all.

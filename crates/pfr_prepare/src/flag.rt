@@ -63,8 +63,8 @@ pub fn network_of(text: &[u8]) -> Option<Net>
 }
 
 impl<'a> Flag<'a> {
-    /// The flag of a kind that a word gives: a file, or `NAME=VALUE` with the first `=` between them, where neither is empty. The value
-    /// of an interface is `A.B.C.D/BITS`. None if the word has another form.
+    /// The flag of a kind that a word gives: a file, or `NAME=VALUE`, cut at the first `=`, with neither part empty.
+    /// The value of an interface is `A.B.C.D/BITS`. None if the word has another form.
     pub fn parse(kind: FlagKind, word: &'a str) -> Option<Flag<'a>>
         ensures { option_map spec.shape result ≡ spec.flag_of kind word.entry.now }
     {

@@ -107,7 +107,7 @@ fn say_rules_of_others<E: Write>(
     Ok(())
 }
 
-/// Says what pf would make of a text otherwise though nothing of it is rewritten.
+/// Says what pf would do otherwise with a text though nothing of it is rewritten.
 fn say_warnings<E: Write>(
     alloc: Global,
     request: &Request<'_>,
@@ -173,8 +173,8 @@ fn prepared_of<E: Write>(
     })
 }
 
-/// What is made of a ruleset's text and of the files that flags name: the text with its files, in the words of the strict reader. All
-/// that is said of it but its faults goes to `err`.
+/// What is made of a ruleset's text and of the files that flags name: the text with its files, in the words of the
+/// strict reader. All that is said of it but its faults goes to `err`.
 #[tactic(auto, unfolding(crate::specs::Making::made_text))]
 pub(crate) fn made_text<E: Write>(
     alloc: Global,

@@ -29,7 +29,7 @@ pub struct Request<'a> {
 
 /// What a ruleset's file holds.
 ///
-/// Of a file that has more than 1048576 bytes one more is read, so that this shows.
+/// Of a file with more than 1048576 bytes the first 1048577 are read, so that the text is seen to be too long.
 pub fn held_text<'a, R: Files + AllocGlobal>(
     rt: &R,
     request: &Request<'a>,
@@ -37,8 +37,8 @@ pub fn held_text<'a, R: Files + AllocGlobal>(
     file_text(rt, request.name, MOST_OF_TEXT)
 }
 
-/// The text of a ruleset as it is to be read, if its file holds this. If it is rewritten, all that is said of it but its faults goes to
-/// `err`.
+/// The text of a ruleset as it is to be read, if its file holds this. If it is rewritten, all that is said of it but
+/// its faults goes to `err`.
 pub fn prepared_from<'a, R: Files + AllocGlobal, E: Write>(
     rt: &R,
     request: &Request<'a>,
@@ -51,7 +51,8 @@ pub fn prepared_from<'a, R: Files + AllocGlobal, E: Write>(
     Ok(Prepared::of(rt.alloc(), text))
 }
 
-/// The text of a ruleset's file as it is to be read. If it is rewritten, all that is said of it but its faults goes to `err`.
+/// The text of a ruleset's file as it is to be read. If it is rewritten, all that is said of it but its faults goes to
+/// `err`.
 pub fn prepared_text<'a, R: Files + AllocGlobal, E: Write>(
     rt: &R,
     request: &Request<'a>,
@@ -90,8 +91,8 @@ fn text_of<'a, E: Write>(
     }
 }
 
-/// Says all that the strict reader refuses of a text that was prepared, in its order, by its files and their lines, and answers whether
-/// there is something.
+/// Says all that the strict reader refuses of a text that was prepared, in its order, by its files and their lines, and
+/// answers whether there is something.
 #[tactic(auto, unfolding(crate::specs::Refused::is_refused))]
 pub fn say_faults<E: Write>(
     alloc: Global,

@@ -34,7 +34,8 @@ fn name_of<'a>(request: &Request<'a>, number: usize) -> &'a str {
     }
 }
 
-/// Says a place, and what is said of it. Where this can't be written, the text that comes of it says it.
+/// Says a place, and the kind of what is said there. That it can't be written is ignored: the new text shows what was
+/// done.
 fn say_place<E: Write>(err: &mut E, name: &str, line: usize, column: usize, kind: Kind) {
     let _ = write!(err, "{name}:{line}:{column}: {kind}: ");
 }
@@ -48,13 +49,13 @@ fn say_spliced<E: Write>(request: &Request<'_>, spliced: &Spliced, err: &mut E) 
     let _ = writeln!(err, "include: the text of {file} stands here");
 }
 
-/// Whether a character says where others stand, and shows nothing itself.
+/// Whether a byte is a control character, which shows nothing itself.
 fn is_control(byte: u8) -> bool {
     byte < 32 || byte == 127
 }
 
-/// Says bytes of a text in one line, with a blank for each control character. A word that goes over the end of a continued line has
-/// such.
+/// Says bytes of a text in one line, with a blank for each control character. A word that goes over the end of a
+/// continued line has some.
 fn say_in_line<E: Write>(err: &mut E, bytes: &[u8]) {
     for (place, piece) in bytes.split(|byte| is_control(*byte)).enumerate() {
         if place > 0 {
@@ -148,7 +149,8 @@ fn say_word<E: Write>(err: &mut E, word: &[u8]) {
     }
 }
 
-/// Whether the fault at a place of a list stands before the one at another place in the text, or at the same and is found sooner.
+/// Whether the fault at a place of a list stands before the one at another place in the text, or at the same and is
+/// found sooner.
 fn is_before(faults: &[Fault<'_>], at: usize, other: usize) -> bool {
     let (Some(fault), Some(behind)) = (faults.get(at), faults.get(other)) else {
         return false;

@@ -11,7 +11,7 @@ use Rattle.pfr_published.specs.declared.added.Added.TheVariants.{OneChange, Hidi
 abbrev pub is_next : List Change → List Change → Bool
 is_next list longer = (length longer - length list) == 1
 
--- the change that is next
+-- what a copy has after a change, if the change is next
 abbrev pub with_next : Progress → List Change → Progress
 with_next before longer = if is_next before.changes longer then record { changes = longer; is_shown = before.is_shown } else before
 

@@ -29,8 +29,8 @@ pub struct AddedChange<J: TableNaming> {
 }
 
 impl<J: TableNaming> AddedChange<J> {
-    /// Adds one change of a list to the history, after a beginning that grows by it. There is none if the history goes on after
-    /// that beginning already, if it is as long as 64 bits can say, or if the list has too many owners.
+    /// Adds one change of a list to the history, after a beginning that grows by it. It answers None if the history
+    /// goes on after that beginning already, if it is as long as 64 bits can say, or if the list has too many owners.
     #[tactic(auto, using(crate::proofs::Entries::entry_is))]
     pub(crate) fn next(
         front: &mut Front<J, Change>,
@@ -67,7 +67,8 @@ impl<J: TableNaming> AddedChange<J> {
     }
 }
 
-/// Adds changes to the history that the proofs alone know, after a beginning that grows by them, and says whether it did.
+/// Adds changes that the proofs alone know to the history, after a beginning that grows by them, and says whether it
+/// did.
 pub(crate) fn add_known<J: TableNaming>(
     front: &mut Front<J, Change>,
     history: &History<J, Change>,

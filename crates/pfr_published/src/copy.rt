@@ -13,7 +13,7 @@ use pfr_states::{AHEAD, Change, Place, Table, TableError};
 use std::alloc::{AllocError, Global};
 use std::marker::Brand;
 
-/// Which list of changes it is, and how many states the table may have that they make. A call of a program picks both.
+/// Which list of changes it is, and how many states the table that they make may have. A call of a program picks both.
 pub trait TableNaming: Naming {
     ghost use Rattle.std.specs.Prelude.{ℕ};
 
@@ -24,7 +24,8 @@ impl TableNaming for Brand {
     ghost limit = { 0 };
 }
 
-/// A table of states, and the beginning of the list that has made it of the empty table. There is no table once it is hidden.
+/// A table of states, and the beginning of the list that has made it of the empty table. There is no table once it is
+/// hidden.
 #[derive(Drop)]
 pub struct TableCopy<J: TableNaming> {
     pub(crate) table: Option<Table>,
@@ -39,8 +40,8 @@ pub struct Progress {
     pub is_shown: bool,
 }
 
-/// Does to a table what a change says. A table that refuses it stays as it was. A state that is touched may stand at a place that is
-/// named.
+/// Applies a change to a table. A table that refuses it stays as it was. `place` may name the place of a state that is
+/// touched.
 fn apply(table: &mut Table, change: &Change, place: Option<Place>) -> Result<(), TableError>
     ensures taken { OnOk result (table.new ≡ stepped table.old change.now) }
     ensures kept { OnErr result (table.new ≡ table.old) }
@@ -115,7 +116,7 @@ impl<J: TableNaming> TableCopy<J> {
         }
     }
 
-    /// Drops the table, and has a beginning of the list alone.
+    /// Drops the table, and keeps a beginning of the list alone.
     fn hide(&mut self, front: &Front<J, Change>)
         ensures front { self.new.front ≡ front.now }
         ensures hidden { is_some self.new.table ≡ false }

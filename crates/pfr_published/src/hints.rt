@@ -1,7 +1,7 @@
 //! Where states stand that changes are about to touch.
 use pfr_states::{AHEAD, Change, Lookup, Place, Side, Table, TableChange};
 
-/// For each change of a part of a list the place of the state that it touches, as far as it is known. Nothing rests on it.
+/// For each change of a part of a list the place of the state that it touches, if that is known. Nothing depends on it.
 #[derive(Clone, Copy)]
 pub(crate) struct Hints {
     places: [Option<Place>; AHEAD],
@@ -49,8 +49,8 @@ impl Hints {
         self.places[index % AHEAD]
     }
 
-    /// Looks up the states of the first changes, if the table is so large that memory has to be waited for. The keys of states that
-    /// are made are looked up too: what their making reads in memory comes with the rest.
+    /// Looks up the states of the first changes, if the table is so large that reading it has to wait for memory. The
+    /// keys of states that are made are looked up too: what their making reads in memory comes with the rest.
     pub(crate) fn look_up(table: &Table, changes: &[Change]) -> Hints {
         if !table.is_large() {
             return Hints::new();

@@ -48,7 +48,7 @@ impl<J: TableNaming> Published<StoreWriter<J>> {
         })
     }
 
-    /// How far the list has come that is published.
+    /// How far the published list has come.
     pub fn tell(&self) -> Told<J>
         ensures { result ≡ list_of self.now }
     {
@@ -57,7 +57,7 @@ impl<J: TableNaming> Published<StoreWriter<J>> {
         }
     }
 
-    /// A viewer that knows nothing yet. It is refused if there are as many as there may be, or no memory.
+    /// A viewer that knows nothing yet. It is refused if there are as many viewers as there may be, or no memory.
     pub fn viewer(&self, history: &History<J, Change>) -> Result<Viewer<J>, AllocError>
         ensures { IfOk result (λ viewer. viewer ≡ []) }
     {
@@ -68,8 +68,9 @@ impl<J: TableNaming> Published<StoreWriter<J>> {
     }
 
     /// Adds changes, all of them or none, and shows the table after them. It is refused if the table refuses a change, or if memory
-    /// is refused. Then nothing is published any more, and viewers are shown the table that they were shown before. It waits for
-    /// those who still look at a table before the one that is shown when it is called. A table that is hidden stays so.
+    /// is refused. Then nothing is published any more, and viewers are shown the table that they were shown before. It
+    /// waits for viewers that still look at an earlier table than the one shown when it is called. A table that is
+    /// hidden stays so.
     pub fn publish<R: Wait>(
         self,
         rt: &R,
@@ -129,7 +130,7 @@ impl<J: TableNaming> Published<StoreWriter<J>> {
         (published, Err(AllocError))
     }
 
-    /// Does what the writer keeps to the copies, and shows the table after it.
+    /// Applies what the writer keeps to the copies, and shows the table after it.
     fn show<R: Wait>(
         rt: &R,
         writer: StoreWriter<J>,
@@ -196,8 +197,8 @@ impl<J: TableNaming> Published<StoreWriter<J>> {
         writer.append(added).is_ok()
     }
 
-    /// Adds changes to the history that the proofs alone know and has the writer keep that the table is hidden, and says whether
-    /// it did.
+    /// Adds changes that the proofs alone know to the history, has the writer keep that the table is hidden, and says
+    /// whether it did.
     fn append_hiding(
         writer: &mut StoreWriter<J>,
         history: &History<J, Change>,

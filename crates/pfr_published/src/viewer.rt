@@ -36,7 +36,7 @@ impl<J: TableNaming> Told<J> {
     }
 }
 
-/// Someone who may look at the table. Contracts see the changes that are known to be in it.
+/// Someone who may look at the table. Contracts see the changes that the viewer knows to be in it.
 #[derive(Drop)]
 pub struct Viewer<J: TableNaming> {
     pub(crate) reader: Reader<TableCopy<J>, (), Unruled>,
@@ -79,8 +79,8 @@ impl<J: TableNaming> Viewer<J> {
         self.known = self.known.longer(&told.front);
     }
 
-    /// Looks at the table that is published last. It has all changes that were known to the viewer, and these are known from
-    /// now on. Where the table is hidden or no more, the viewer comes back as it was.
+    /// Looks at the table that was published last. The table has all changes that the viewer knew, and from now on the
+    /// viewer knows all of the table's. If the table is hidden or no more, the viewer comes back as it was.
     pub fn enter(self) -> Result<Showing<J>, Viewer<J>>
         ensures begins { IfOk result (λ showing. IsPrefix self showing) }
         ensures kept { IfErr result (λ viewer. viewer ≡ self) }
@@ -92,7 +92,7 @@ impl<J: TableNaming> Viewer<J> {
         }
     }
 
-    /// Looks at the copy that is read, unless its table is hidden or it lacks changes that are known.
+    /// Looks at the copy that is read, unless its table is hidden or it lacks changes in `known`.
     fn look(
         reading: Reading<TableCopy<J>, (), Unruled>,
         known: Front<J, Change>,
@@ -117,7 +117,7 @@ impl<J: TableNaming> Viewer<J> {
 }
 
 impl<J: TableNaming> Showing<J> {
-    /// The table: what the changes that are known make of the empty one.
+    /// The table: what the known changes make of the empty table.
     pub fn table(&self) -> &Table
         ensures { result.now ≡ table_of J.limit self.now }
     {

@@ -59,7 +59,7 @@ pub answered_at : (table : StateTable) (entries : Entries) (i : ℕ) (q : Questi
     → HoldsAt (λ entry. answer_of table entry.0 ≡ entry.1) entries i
 answered_at table entries i q a at is d = rw (get_or_from_slice_get entries i (q, a) d at) is
 
--- where the table agrees with the record, it gives the answer at each place
+-- if the table agrees with the record, it gives the answer at each place
 pub answered_of_all : (table : StateTable) (entries : Entries) (i : ℕ) (q : Question) (a : Answer) → slice_get entries i ≡ Some (q, a) → Agrees table entries → answer_of table q ≡ a
 answered_of_all table entries i q a at h = rw (get_or_from_slice_get entries i (q, a) (q, a) at) at (h i (q, a) (slice_get_within entries i (q, a) at))
 

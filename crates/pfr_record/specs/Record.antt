@@ -27,7 +27,7 @@ answer_of table (RuleRoom rule most) = HasRuleRoom (has_rule_room_in table rule.
 abbrev pub Entries : Type 0
 Entries = List (Question × Answer)
 
--- a table answers each question of a record as recorded; states are the same in all that they hold
+-- a table answers each question of a record as recorded; states are the same in all fields
 abbrev pub Agrees : StateTable → Entries → Type 0
 Agrees table entries = All (λ entry. answer_of table entry.0 ≡ entry.1) entries
 
@@ -40,7 +40,7 @@ abbrev pub missed : Option (Side × Key × Binding) → Entries
 missed None = []
 missed (Some at) = (At at.0 at.1 at.2, Found None) ∷ []
 
--- the entry of whether there is room, if there is one
+-- the entry for whether there is room, if there is one
 abbrev pub room_of : Option Bool → Entries
 room_of None = []
 room_of (Some room) = (Room, HasRoom room) ∷ []
@@ -48,13 +48,14 @@ room_of (Some room) = (Room, HasRoom room) ∷ []
 abbrev pub entries_of : (first second : Option (Side × Key × Binding)) → Option Bool → (others : Entries) → Entries
 entries_of first second room others = missed first ++ missed second ++ room_of room ++ others
 
--- No question of a record is lost, and a table that agrees with it, and gives an answer to a question, agrees with the new one.
+-- No question of a record is lost. A table that agrees with the record, and gives this answer to this question, agrees
+-- with the new record.
 abbrev pub Keeps : (old new : Entries) → Question → Answer → Type 0
 Keeps old new question answer = ((other : Question) → IsKept old other → IsKept new other)
     × ((table : StateTable) → answer_of table question ≡ answer → Agrees table old → Agrees table new)
 
--- over every table that agrees with the record, the packet comes to this outcome, and all that is asked of the table is in the
--- record
+-- over every table that agrees with the record, the packet comes to this outcome, and all questions to the table are in
+-- the record
 abbrev pub IsSound : RunJob → ℕ → Clock → InterfacePlace → View → Outcome → Entries → Type 0
 IsSound job number clock place view outcome entries = (table : StateTable) → Agrees (purged_at clock table) entries
     → (step_of job number clock place view table ≡ outcome) × All (λ question. ∥ IsKept entries question ∥₁) (asked_of job number clock place view table)

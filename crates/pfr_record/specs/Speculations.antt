@@ -10,7 +10,7 @@ use Rattle.pfr_packet.specs.Job.{RunJob}
 use Rattle.pfr_record.specs.declared.speculation.Speculation.{Speculation}
 use Rattle.pfr_record.specs.Record.{Agrees}
 
--- it is of this packet of this job, and its record holds in the table
+-- the speculation is of this packet of this job, and its record holds in the table
 pub record Fits (speculation : Speculation) (job : RunJob) (number : ℕ) (clock : Clock) (place : InterfacePlace) (view : View) (table : StateTable) : Type 0 where
   pub job_is : arc_value speculation.job ≡ job
   pub number_is : speculation.number ≡ number

@@ -74,7 +74,7 @@ fn is_same_traffic(first: &Traffic, second: &Traffic) -> bool
     first == second
 }
 
-/// Whether two states are one in all that they hold.
+/// Whether two states are the same in all fields.
 fn is_same_state(first: &State, second: &State) -> bool
     ensures { IsTrue result ↔ (first.now ≡ second.now) }
 {
@@ -92,7 +92,7 @@ fn is_same_state(first: &State, second: &State) -> bool
         && is_same_traffic(&first.back, &second.back)
 }
 
-/// Whether a table found just what was recorded: no state, or one that is the same in all that it holds.
+/// Whether a table found exactly what was recorded: no state, or a state that is the same in all fields.
 pub(crate) fn is_same_find(found: &Option<Found<'_>>, recorded: &Option<State>) -> bool
     ensures { IsTrue result ↔ (option_map (λ found. found.state.now) found.now ≡ recorded.now) }
 {

@@ -1,4 +1,4 @@
-//! What was asked of a table, and answered.
+//! The questions to a table, and its answers.
 ghost use Rattle.std.specs.Prelude.{◌≡◌, ◌↔◌, ◌<◌, true, IsTrue, None, Some, OnOk, [], length};
 ghost use Rattle.std.specs.List.{HoldsAt};
 ghost use Rattle.pfr_states.specs.declared.question.Question.TheVariants.{At, Room};
@@ -17,8 +17,8 @@ use std::marker::Model;
 /// A look-up that finds no state, if there was one.
 type Missed = Option<Lookup>;
 
-/// The questions that were asked of a table, each with its answer; contracts see the list of them. Two look-ups that find no state,
-/// and whether there is room, take no memory of their own: most packets ask no more than that.
+/// The questions to a table, each with its answer; contracts see the list of them. Two look-ups that find no state, and
+/// the answer whether there is room, take no memory of their own: most packets ask no more than that.
 #[derive(Drop)]
 pub struct Lookups {
     missed: Missed,
@@ -35,7 +35,7 @@ impl Model for Lookups {
     ghost view = { λ l. entries_of l.missed l.missed_too l.room l.others.entries };
 }
 
-/// Notes a look-up that finds no state, unless another one is noted here. It says whether this one is.
+/// Notes a look-up that finds no state, unless another one is noted here. Says whether this one is noted.
 fn note_missed(place: &mut Missed, side: Side, key: &Key, scope: Binding) -> bool
     ensures noted { result ≡ true → IsKept (spec.missed place.new) (At side key.now scope) }
     ensures keeps { Keeps (spec.missed place.old) (spec.missed place.new) (At side key.now scope) (Found None) }
@@ -47,7 +47,7 @@ fn note_missed(place: &mut Missed, side: Side, key: &Key, scope: Binding) -> boo
     true
 }
 
-/// Notes whether there is room, unless it is noted. It says whether it is noted so.
+/// Notes whether there is room, unless it is noted already. Says whether the answer that is noted is this one.
 fn note_room(place: &mut Option<bool>, room: bool) -> bool
     ensures noted { result ≡ true → IsKept (spec.room_of place.new) Room }
     ensures keeps { Keeps (spec.room_of place.old) (spec.room_of place.new) Room (HasRoom room) }
@@ -59,7 +59,7 @@ fn note_room(place: &mut Option<bool>, room: bool) -> bool
     true
 }
 
-/// Whether a table has no state with a key for a scope. It is looked for where a hint says first.
+/// Whether a table has no state with a key for a scope. The place of the hint is looked at first.
 #[tactic(auto, unfolding(pfr_states::specs::Answers::found_in, pfr_states::specs::Answers::purged_at))]
 fn is_none_at(
     table: &Table,
@@ -74,7 +74,7 @@ fn is_none_at(
     table.find_near(side, key, scope, clock, hint).is_none()
 }
 
-/// Whether a look-up that was noted finds still no state.
+/// Whether a look-up that was noted still finds no state.
 fn is_missed(table: &Table, clock: Clock, hint: Option<Place>, missed: &Missed) -> bool
     ensures { IsTrue result ↔ Agrees (purged_at clock table.now) (spec.missed missed.now) }
 {
@@ -84,7 +84,7 @@ fn is_missed(table: &Table, clock: Clock, hint: Option<Place>, missed: &Missed) 
     }
 }
 
-/// Whether a table has room, or has none, as is said.
+/// Whether a table has room if `room` says so, and has none if not.
 #[tactic(auto, unfolding(pfr_states::specs::Answers::has_room_in, pfr_states::specs::Answers::purged_at))]
 fn has_room(table: &Table, clock: Clock, room: bool) -> bool
     ensures { IsTrue result ↔ (has_room_in (purged_at clock table.now) ≡ room) }
@@ -92,7 +92,7 @@ fn has_room(table: &Table, clock: Clock, room: bool) -> bool
     table.room(clock) == room
 }
 
-/// Whether a table has room as was noted, if it was.
+/// Whether the table's answer about room is the noted one, if one was noted.
 fn has_room_so(table: &Table, clock: Clock, room: &Option<bool>) -> bool
     ensures { IsTrue result ↔ Agrees (purged_at clock table.now) (spec.room_of room.now) }
 {
@@ -102,7 +102,7 @@ fn has_room_so(table: &Table, clock: Clock, room: &Option<bool>) -> bool
     }
 }
 
-/// Whether a table answers a question so at a clock. The state of the question is looked for where a hint says first.
+/// Whether a table gives this answer to a question at a clock. The place of the hint is looked at first.
 #[tactic(auto, unfolding(pfr_states::specs::Answers::found_in, pfr_states::specs::Answers::has_room_in, pfr_states::specs::Answers::has_rule_room_in, pfr_states::specs::Answers::purged_at))]
 fn is_answered(
     table: &Table,
@@ -125,7 +125,7 @@ fn is_answered(
     }
 }
 
-/// Whether a table gives at a clock the answer that stands at a place.
+/// Whether a table gives at a clock the answer at index `index`.
 #[tactic(auto, using(crate::proofs::RecordLemmas::answered_at, crate::proofs::RecordLemmas::answered_of_all))]
 fn is_answered_at(
     answers: &IndexMap<Question, Answer>,
@@ -144,7 +144,7 @@ fn is_answered_at(
     }
 }
 
-/// Whether a table gives at a clock all these answers. The state of the first question is looked for where a hint says first.
+/// Whether a table gives at a clock all these answers. For the first question the place of the hint is looked at first.
 #[tactic(auto, using(crate::proofs::RecordLemmas::agrees_more, crate::proofs::RecordLemmas::agrees_all))]
 fn are_answered(
     answers: &IndexMap<Question, Answer>,
@@ -164,7 +164,7 @@ fn are_answered(
 }
 
 impl Lookups {
-    /// Nothing was asked so far.
+    /// No question was asked so far.
     pub(crate) fn new(alloc: Global) -> Lookups
         ensures { result ≡ [] }
     {
@@ -176,7 +176,7 @@ impl Lookups {
         }
     }
 
-    /// How many questions there are.
+    /// The number of questions.
     pub(crate) fn len(&self) -> usize
         ensures { result ≡ length self.now }
     {
@@ -184,7 +184,7 @@ impl Lookups {
         missed + usize::from(self.room.is_some()) + self.others.len()
     }
 
-    /// Notes any answer. Where memory is refused no other is lost.
+    /// Notes any answer. If memory is refused, no other answer is lost.
     fn keep_other(&mut self, question: Question, answer: Answer) -> Result<(), AllocError>
         ensures noted { OnOk result (IsKept self.new question) }
         ensures keeps { Keeps self.old self.new question answer }
@@ -193,7 +193,7 @@ impl Lookups {
         Ok(())
     }
 
-    /// Notes that a look-up finds no state, in place if there is one left.
+    /// Notes that a look-up finds no state; it takes no memory if there is a place left for it.
     fn keep_missed(&mut self, side: Side, key: Key, scope: Binding) -> Result<(), AllocError>
         ensures noted { OnOk result (IsKept self.new (At side key scope)) }
         ensures keeps { Keeps self.old self.new (At side key scope) (Found None) }
@@ -207,7 +207,7 @@ impl Lookups {
         self.keep_other(Question::At(side, key, scope), Answer::Found(None))
     }
 
-    /// Notes whether there is room, in place if it is the first such answer.
+    /// Notes whether there is room; it takes no memory if it is the first such answer.
     fn keep_room(&mut self, room: bool) -> Result<(), AllocError>
         ensures noted { OnOk result (IsKept self.new Room) }
         ensures keeps { Keeps self.old self.new Room (HasRoom room) }
@@ -218,7 +218,7 @@ impl Lookups {
         self.keep_other(Question::Room, Answer::HasRoom(room))
     }
 
-    /// Notes an answer. Where memory is refused no other is lost.
+    /// Notes an answer. If memory is refused, no other answer is lost.
     pub(crate) fn keep(&mut self, question: Question, answer: Answer) -> Result<(), AllocError>
         ensures noted { OnOk result (IsKept self.new question) }
         ensures keeps { Keeps self.old self.new question answer }
@@ -232,8 +232,8 @@ impl Lookups {
         }
     }
 
-    /// Whether a table gives at a clock each answer: states are the same in all that they hold. The state of the first question is
-    /// looked for where a hint says first.
+    /// Whether a table gives each answer at a clock: states are the same in all fields. For the first question the
+    /// place of the hint is looked at first.
     pub(crate) fn hold_near(&self, table: &Table, clock: Clock, hint: Option<Place>) -> bool
         ensures { IsTrue result ↔ Agrees (purged_at clock table.now) self.now }
     {

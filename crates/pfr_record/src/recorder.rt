@@ -12,7 +12,7 @@ use pfr_states::{Question, Side, Table};
 use pfr_track::{Binding, Clock, Key, RuleNumber, State};
 use std::alloc::{AllocError, Global};
 
-/// The answers of a table at a clock, with a record of what was asked and answered.
+/// The answers of a table at a clock, with a record of the questions and answers.
 #[derive(Drop)]
 pub(crate) struct Recorder<'a> {
     table: &'a Table,
@@ -22,7 +22,7 @@ pub(crate) struct Recorder<'a> {
 }
 
 impl<'a> Recorder<'a> {
-    /// Nothing was asked so far.
+    /// No question was asked so far.
     pub(crate) fn new(alloc: Global, table: &'a Table, clock: Clock) -> Recorder<'a>
         ensures seen { purged_at result.clock result.table.now ≡ purged_at clock table.now }
     {

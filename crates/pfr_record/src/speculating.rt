@@ -13,7 +13,8 @@ use pfr_track::{Clock, InterfacePlace};
 use std::alloc::{AllocError, Global};
 use std::sync::Arc;
 
-/// Evaluates packet `number` of a job, captured on an interface, at a clock on a table, and records what was asked of the table and answered.
+/// Evaluates packet `number` of a job, captured on an interface, at a clock on a table, and records all questions to
+/// the table and its answers.
 pub fn speculate(
     alloc: Global,
     job: &Arc<Job>,

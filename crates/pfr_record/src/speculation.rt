@@ -13,8 +13,8 @@ use pfr_states::{Place, Table};
 use pfr_track::{Clock, InterfacePlace};
 use std::sync::Arc;
 
-/// What a packet of a job was found to come to on some table, and all that was asked of that table for it. Over every table
-/// that gives these answers the packet comes to that.
+/// What a packet of a job was found to come to on some table, with all questions to that table and its answers. Over
+/// every table that gives these answers the packet comes to the same.
 #[derive(Drop)]
 pub struct Speculation {
     pub(crate) job: Arc<Job>,
@@ -38,31 +38,31 @@ impl Speculation {
         self.number
     }
 
-    /// How many questions its record has. A pick among many taken ports asks one for each of them, so a record may grow large, and a
-    /// caller that keeps many speculations may drop such a one.
+    /// The number of questions in its record. A pick among many taken ports asks one for each of them, so a record may
+    /// grow large, and a caller that keeps many speculations may drop a large one.
     pub fn questions(&self) -> usize
         ensures { result ≡ length self.now.answers }
     {
         self.answers.len()
     }
 
-    /// Whether a table gives at a clock each answer that was recorded: states are the same in all that they hold. The state of
-    /// the first question is looked for where a hint says first.
+    /// Whether a table gives each recorded answer at a clock: states are the same in all fields. For the first question
+    /// the place of the hint is looked at first.
     fn holds_near(&self, table: &Table, clock: Clock, hint: Option<Place>) -> bool
         ensures { IsTrue result ↔ Agrees (purged_at clock table.now) self.now.answers }
     {
         self.answers.hold_near(table, clock, hint)
     }
 
-    /// Whether a table gives at a clock each answer that was recorded: states are the same in all that they hold.
+    /// Whether a table gives each recorded answer at a clock: states are the same in all fields.
     pub fn holds_in(&self, table: &Table, clock: Clock) -> bool
         ensures { IsTrue result ↔ Agrees (purged_at clock table.now) self.now.answers }
     {
         self.holds_near(table, clock, None)
     }
 
-    /// Whether this is of such a packet of a job, and its record holds in a table. Jobs are compared unless it is known that this
-    /// is of that one: it takes as long as their text is.
+    /// Whether this is the speculation for such a packet of a job, and its record holds in a table. The jobs are
+    /// compared unless `is_of_job`, because to compare them takes as long as their text is.
     fn fits(
         &self,
         is_of_job: bool,
@@ -85,8 +85,8 @@ impl Speculation {
             && self.holds_near(table, clock, hint)
     }
 
-    /// The outcome for a packet of a job over a table: there is one if this is of just that packet, and its record holds in the
-    /// table.
+    /// The outcome for a packet of a job over a table, if this is the speculation for exactly that packet, and its
+    /// record holds in the table.
     pub fn outcome_for(
         self,
         job: &Job,
@@ -106,8 +106,9 @@ impl Speculation {
         }
     }
 
-    /// The same, with this left where it is. It may be known that this is of the job, which isn't compared then. The state of
-    /// the first question may stand at the place of the hint, as [`Table::place_by`] names one. A wrong hint costs time alone.
+    /// The same, but the speculation is left as it is. If `is_of_job`, it is known to be of the job, and the jobs
+    /// aren't compared. The state of the first question may stand at the place of the hint, as [`Table::place_by`]
+    /// names one. A wrong hint costs time alone.
     pub fn outcome_near(
         &self,
         is_of_job: bool,

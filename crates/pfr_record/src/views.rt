@@ -1,4 +1,4 @@
-//! Views that are compared.
+//! Comparisons of views.
 ghost use Rattle.std.specs.Prelude.{◌≡◌, ◌↔◌, IsTrue};
 
 use pfr_headers::{EthernetAddress, Packet, Transport, View};

@@ -145,7 +145,7 @@ with_mark before mark more =
     else if is (codes ")") mark then record before { brackets = before.brackets - 1; asks = asks.Nothing }
     else with_word before mark.piece
 
--- behind a mark, for which this was said, before others
+-- what stands before the marks `more`, behind `mark`; `why` is what was said at `mark`
 unfoldable pub behind : Before → Mark → List Mark → Option Why → Before
 behind before mark more why =
     if is (codes "\n") mark then with_line_end before

@@ -18,7 +18,7 @@ AreAtWords (remark ∷ remarks) (mark ∷ marks) =
 abbrev pub EachRemarkIsAtAWord : Type 0
 EachRemarkIsAtAWord = (text : List ℕ) → AreAtWords (remarks text) (marks text)
 
--- a word may be refused that means this, or the one behind it
+-- a word with this meaning may be refused, or the word behind it
 abbrev pub may_be_refused : Option Keyword → Bool
 may_be_refused None = false
 may_be_refused (Some keyword.Protocol) = false

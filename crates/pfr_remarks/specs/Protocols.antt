@@ -7,7 +7,8 @@ use Rattle.pfr_remarks.specs.declared.protocols.Protocols.{Protocols}
 use Rattle.pfr_remarks.specs.declared.why.Why.{Why}
 use Rattle.pfr_remarks.specs.declared.why.Why.TheVariants as why
 
--- the protocols whose packets have ports or types of ICMP, by pf.conf(5)'s names and the numbers of IANA's "Protocol Numbers"
+-- the protocols whose packets have ports or types of ICMP, by pf.conf(5)'s names and the numbers of IANA's "Protocol
+-- Numbers"
 abbrev pub known_protocols : List (List ℕ × Has)
 known_protocols =
     (codes "tcp", has.Ports) ∷ (codes "6", has.Ports) ∷ (codes "udp", has.Ports) ∷ (codes "17", has.Ports)
@@ -22,7 +23,7 @@ abbrev pub had_by_entry : Option Has → List ℕ → Has
 had_by_entry (Some found) word = found
 had_by_entry None word = if is_macro_use word then has.Unknown else has.Neither
 
--- what packets of the protocol have that a word stands for
+-- what packets of the protocol that `word` names have
 unfoldable pub had_by : List ℕ → Has
 had_by word = had_by_entry (entry_of known_protocols word) word
 

@@ -173,7 +173,7 @@ impl Before {
         0 < self.braces || 0 < self.brackets
     }
 
-    /// Behind a mark, for which this was said, before others.
+    /// What stands before the marks `more`, behind `mark`. `why` is what was said at `mark`.
     #[tactic(auto, unfolding(crate::specs::Befores::behind))]
     pub(crate) fn behind(self, mark: &Mark<'_>, more: &[Mark<'_>], why: Option<Why>) -> Before
         ensures { result ≡ spec.behind self mark.now more.now why }

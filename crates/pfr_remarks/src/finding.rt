@@ -24,7 +24,8 @@ fn put<'a>(
     Ok(())
 }
 
-/// Puts what is said at the first of these marks behind the remarks so far, and answers what stands before the next one.
+/// Puts what is said at the first of these marks behind the remarks so far, and answers what stands before the next
+/// one.
 fn step<'a>(
     found: &mut Items<Remark<'a>>,
     before: Before,
@@ -54,8 +55,8 @@ fn remarks_of<'a>(alloc: Global, marks: &[Mark<'a>]) -> Result<Items<Remark<'a>>
     Ok(found)
 }
 
-/// What pfctl refuses of a text, in the order of the text: nothing if a brace isn't closed, or closes nothing, since then nobody knows
-/// where a statement ends. Of a rule each [`Why`] is said once, at the first word.
+/// What pfctl refuses of a text, in the order of the text: nothing if a brace isn't closed, or closes nothing, since
+/// then it isn't known where a statement ends. Of a rule each [`Why`] is said once, at the first word.
 #[tactic(auto, unfolding(crate::specs::Finding::remarks))]
 pub fn remarks<'a>(alloc: Global, text: &'a [u8]) -> Result<Items<Remark<'a>>, AllocError>
     ensures { IfOk result (λ found. found ≡ spec.remarks text.now) }

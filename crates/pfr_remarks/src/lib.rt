@@ -1,7 +1,7 @@
-//! What pfctl(8) of FreeBSD 13 refuses of a ruleset text though this program accepts it.
+//! What pfctl(8) of FreeBSD 13 refuses of a ruleset text though this program accepts it. A helper of `pfr_prepare`.
 //!
-//! Nothing is rewritten: [`remarks`] finds the words, and each [`Remark`] is a warning. A text that uses none of the words that pfctl may
-//! refuse has no remarks, and each remark is about a word of the text ([`laws`]).
+//! Nothing is rewritten: [`remarks`] finds the words, and each [`Remark`] is a warning. A text that uses none of the
+//! words that pfctl may refuse has no remarks, and each remark is about a word of the text ([`laws`]).
 #![tactic(auto)]
 
 mod before;

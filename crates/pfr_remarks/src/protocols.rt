@@ -31,7 +31,7 @@ const PROTOCOLS: [(&[u8], Has); 6] = [
 pub(crate) struct Protocols {
     /// Whether the rule has the word `proto`.
     pub named: bool,
-    /// Whether one is a macro's.
+    /// Whether one of them is a macro's value.
     pub unknown: bool,
     /// Whether packets of one have no ports.
     pub without_ports: bool,
@@ -39,7 +39,7 @@ pub(crate) struct Protocols {
     pub without_types: bool,
 }
 
-/// What packets of the protocol have that a word stands for.
+/// What packets of the protocol that `word` names have.
 #[tactic(auto, unfolding(crate::specs::Protocols::had_by))]
 fn had_by(word: &[u8]) -> Has
     ensures { result ≡ spec.had_by word.now }

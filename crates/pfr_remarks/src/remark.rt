@@ -10,7 +10,7 @@ use pfr_words::Bytes;
 /// How many bytes a label has at most: PF_RULE_LABEL_SIZE of FreeBSD's net/pfvar.h, less the zero at its end.
 const LABEL_BYTES: usize = 63;
 
-/// What pfctl(8) refuses of a rule, at the word for which it does.
+/// What pfctl(8) refuses of a rule, at the word for which it refuses the rule.
 #[derive(Drop)]
 pub struct Remark<'a> {
     pub place: Place,
@@ -29,7 +29,7 @@ fn label_len(word: &[u8]) -> usize
 }
 
 impl Before {
-    /// Why a word is refused that means this, before other marks.
+    /// Why a word with this meaning is refused, before the marks `more`.
     fn keyword_refused(self, keyword: Keyword, more: &[Mark<'_>]) -> Option<Why>
         ensures { result ≡ spec.keyword_refused self keyword more.now }
     {

@@ -70,7 +70,7 @@ further_end place from end marks zero before lie = before
 further_end place from end [] (suc n) before lie = before
 further_end place from end (mark ∷ marks) (suc n) before lie = further_end mark.end from end marks n (omega (arith, before, lie.0, lie.1)) lie.2
 
--- the end of the first marks is that of those behind the first one
+-- the first `count` marks end where the `count - 1` marks behind the first one end
 end_behind : (count : ℕ) (mark : Mark) (marks : List Mark) → 1 ≤ count
     → end_of mark.start (take count (mark ∷ marks)) ≡ end_of mark.end (take (count - 1) marks)
 end_behind zero mark marks some = absurd (omega arith)

@@ -52,11 +52,11 @@ forms_in networks addresses =
     if not (length networks == 1) || not (length addresses == 1) then None
     else Some (record { network = joined_by (codes ", ") networks; address = Some (joined_by (codes ", ") addresses) })
 
--- those that are given, if there is one of each
+-- the forms that are given, if there is one of each
 unfoldable pub given_forms : Given → List ℕ → Option Forms
 given_forms given name = forms_in (texts_of given subject.Address (name ++ codes ":network")) (texts_of given subject.Address (name ++ []))
 
--- those of an interface that the text is for are named by it
+-- the forms of an interface; those of the text's own interfaces are their names
 unfoldable pub forms_of : Given → (own : List (List ℕ)) → (name : List ℕ) → Option Forms
 forms_of given own name =
     if is_among own name then Some (own_forms name)
@@ -129,7 +129,7 @@ abbrev pub with_address : Option (List ℕ) → List ℕ → Frame → List ℕ
 with_address None made frame = made
 with_address (Some address) made frame = with_rule made frame [] [] address
 
--- what comes by another interface from its network, and what comes from its address
+-- the rule for packets from its network on other interfaces, and the rule for packets from its address
 abbrev pub with_rules : List ℕ → Frame → List ℕ → Forms → List ℕ
 with_rules made frame name forms = with_address forms.address (with_rule made frame (codes " on ! ") name forms.network) frame
 

@@ -79,6 +79,6 @@ said_from given known context (mark ∷ marks) =
 abbrev pub before : Context
 before = beginning_at beginning
 
--- the rules and anchors of a text that hold for no packet of a run, since they name other interfaces than its own ones
+-- the rules and anchors of a text that hold for no packet of a run, since they name other interfaces than the run's own
 unfoldable pub other_interfaces : (text : List ℕ) → (own : List (List ℕ)) → Given → List Finding
 other_interfaces text own given = if are_closed (marks text) then said_from given (known_before own (marks text)) before (marks text) else []

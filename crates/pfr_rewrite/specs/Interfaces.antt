@@ -37,7 +37,7 @@ names_for given word = names_for_texts word (texts_of given subject.Interface (w
 abbrev pub unknown_name : List ℕ
 unknown_name = codes "$"
 
--- what names no interface for a `!`, since all but some interfaces have no names
+-- the name that no interface has for a `!`: the interfaces that it stands for can't be named
 abbrev pub names_of_sign : List ℕ → List (List ℕ)
 names_of_sign piece = if bytes_eq piece (codes "!") then unknown_name ∷ [] else []
 
@@ -52,7 +52,8 @@ abbrev pub names_by : Given → Option (List ℕ) → List (List ℕ)
 names_by given (Some value) = names_of_words given (marks value)
 names_by given None = unknown_name ∷ []
 
--- the words of a macro's value; what names no interface, if that isn't known, or has more bytes than may still be looked at
+-- the words of a macro's value; the name that no interface has if the value isn't known, or has more bytes than may
+-- still be read
 abbrev pub value_names : Given → Known → List ℕ → List (List ℕ)
 value_names given known name = names_by given (if_within (value_of known.macros name) known.left)
 

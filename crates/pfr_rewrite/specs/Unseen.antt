@@ -22,7 +22,7 @@ abbrev pub reason_of : Option Finding → Option Reason
 reason_of None = None
 reason_of (Some finding) = Some finding.reason
 
--- what a rule with a value is left out for: a word of the value
+-- why a rule with a value is left out: for a word of the value
 abbrev pub reason_in : List ℕ → Option Reason
 reason_in value = reason_of (criterion_in (marks value))
 
@@ -30,7 +30,7 @@ abbrev pub reason_by : Option (List ℕ) → Option Reason
 reason_by None = None
 reason_by (Some value) = reason_in value
 
--- what a rule is left out for: a word of the value of the macro at the front of marks, if it has at most `left` bytes
+-- why a rule is left out: for a word of the value of the macro at the front of marks, if it has at most `left` bytes
 abbrev pub reason_at : Known → ℕ → List Mark → Option Reason
 reason_at known left marks = reason_by (value_within known left marks)
 
@@ -66,7 +66,7 @@ rule_for None statement = None
 rule_for (Some finding) [] = None
 rule_for (Some finding) (first ∷ behind) = Some (whole first.start (end_of first.end (first ∷ behind)) (length (first ∷ behind)) finding)
 
--- a statement begins that may be left out for what it asks for
+-- a statement begins that may be left out for its criteria
 abbrev pub begins_asking : List Mark → Bool
 begins_asking [] = false
 begins_asking (first ∷ behind) = may_ask first.piece

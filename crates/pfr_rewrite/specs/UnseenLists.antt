@@ -36,7 +36,7 @@ why_or None value = value
 unfoldable pub element_why : Known → ℕ → List Mark → Option Why
 element_why known left marks = why_or (own_why marks) (value_why (unseen_value known left marks))
 
--- why two parts of a list are left out: not only since packets are IPv4, if one is for another reason
+-- why two parts of a list are left out: IPv6 alone is the reason only if neither part has another one
 abbrev pub reason_of_both : Option Reason → Reason → Option Reason
 reason_of_both None here = Some here
 reason_of_both (Some reason.Inet6) here = Some here
@@ -59,11 +59,11 @@ abbrev pub step_for : Option Why → Seen → ℕ → Step
 step_for None seen length = step.Ends None
 step_for (Some why) seen length = step.Goes (behind_element seen why length)
 
--- behind the element at the front: not if it isn't left out
+-- how a list goes on behind the element at the front: it ends if the element isn't left out
 unfoldable pub element_step : Known → Seen → List Mark → Step
 element_step known seen marks = step_for (element_why known seen.left marks) seen (value_len known marks)
 
--- behind the mark at the front
+-- how a list goes on behind the mark at the front
 unfoldable pub list_step : Known → Seen → List Mark → Step
 list_step known seen [] = step.Ends None
 list_step known seen (first ∷ marks) =

@@ -17,11 +17,11 @@ are_one words =
     if begins_with words (codes "{") then list_from 0 words == length words
     else element_len group.Unseen (drop (sign_len (codes "!") words) words) == length (drop (sign_len (codes "!") words) words)
 
--- why nothing but these marks as addresses is left out
+-- why addresses are left out that are these marks and nothing else
 abbrev pub unseen_of : List Mark → Option Reason
 unseen_of words = if are_one words then unseen_at words else None
 
--- what a rule with a value as addresses is left out for
+-- why a rule with a value as addresses is left out
 abbrev pub unseen_in : List ℕ → Option Reason
 unseen_in value = unseen_of (marks value)
 
@@ -29,6 +29,6 @@ abbrev pub unseen_by : Option (List ℕ) → Option Reason
 unseen_by None = None
 unseen_by (Some value) = unseen_in value
 
--- why addresses are left out that are the macro at the front of marks, if it is one with at most `left` bytes
+-- why addresses are left out that are the macro at the front of marks, if its value has at most `left` bytes
 abbrev pub unseen_value : Known → ℕ → List Mark → Option Reason
 unseen_value known left marks = unseen_by (value_within known left marks)

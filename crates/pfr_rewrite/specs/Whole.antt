@@ -57,7 +57,7 @@ abbrev pub passed_behind : Given → Known → Context → ℕ → (statement ma
 passed_behind given known context zero statement marks = passed_by (found_here given known context statement marks)
 passed_behind given known context (suc passed) statement marks = passed
 
--- where the statement begins that a mark stands in
+-- where a mark's statement begins
 abbrev pub begin_at : Context → (before here : ℕ) → ℕ
 begin_at context before here = if is_nothing context.within then here else before
 
@@ -76,11 +76,12 @@ changes_from given known context passed statement (mark ∷ marks) =
 abbrev pub before : Context
 before = beginning_at beginning
 
--- macros' values of 4 MiB are looked at
+-- at most 4 MiB of macros' values are read
 abbrev pub known_before : (own : List (List ℕ)) → List Mark → Known
 known_before own marks = record { own = own; tables = tables_from [] marks; macros = []; left = 4194304 }
 
--- what is rewritten of a text for interfaces of these names, from its beginning to its end: nothing if a brace isn't closed, or closes nothing
+-- what is rewritten of a text for interfaces of these names, from its beginning to its end: nothing if a brace isn't
+-- closed, or closes nothing
 unfoldable pub changes : (text : List ℕ) → (own : List (List ℕ)) → Given → List Change
 changes text own given =
     if are_closed (marks text) then changes_from given (known_before own (marks text)) before 0 (marks text) (marks text) else []

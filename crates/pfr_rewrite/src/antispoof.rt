@@ -62,7 +62,7 @@ struct Forms {
     address: Option<Items<u8>>,
 }
 
-/// The forms of an interface that the text is for.
+/// The forms of one of the text's own interfaces.
 fn own_forms(alloc: Global, own: &[u8]) -> Result<Forms, AllocError>
     ensures { IfOk result (λ forms. forms ≡ spec.own_forms own.now) }
 {
@@ -172,7 +172,8 @@ fn behind_label(word: &[u8]) -> Option<Awaits>
     }
 }
 
-/// Puts what stays of a word among the options at the end, and answers what is awaited behind it; nothing if it doesn't belong there.
+/// Puts what stays of a word among the options at the end, and answers what is awaited behind it; nothing if the word
+/// doesn't belong there.
 fn put_option(
     tail: &mut Items<u8>,
     awaits: Awaits,
@@ -343,7 +344,7 @@ fn options_in<'m, 'a>(rest: &'m [Mark<'a>]) -> &'m [Mark<'a>]
     options
 }
 
-/// The rules that a statement stands for, by the marks before its interfaces, and those behind.
+/// The rules that a statement stands for, by the marks before its interfaces and the marks from there on.
 fn rules_behind(
     alloc: Global,
     given: &Given,

@@ -14,7 +14,7 @@ use pfr_phrases::reason::Reason;
 use pfr_spelling::known::Known;
 use std::alloc::{AllocError, Global};
 
-/// Whether a rule of an interface of this name may hold: it is one of the run's own, or isn't known.
+/// Whether a rule of an interface of this name may hold: the interface is one of the run's own, or isn't known.
 fn may_hold(own: &[Items<u8>], name: &[u8]) -> bool
     ensures { result ≡ spec.may_hold own.now name.now }
 {
@@ -142,8 +142,8 @@ fn said_of<'a>(
     Ok(said)
 }
 
-/// The rules and anchors of a text that hold for no packet of a run, since they name other interfaces than its own ones: each at the
-/// first of them.
+/// The rules and anchors of a text that hold for no packet of a run, since they name other interfaces than the run's
+/// own. Each is reported at the first interface that it names.
 #[tactic(auto, unfolding(crate::specs::Elsewhere::other_interfaces))]
 pub fn other_interfaces<'a>(
     alloc: Global,

@@ -90,7 +90,8 @@ fn put_mark(
     put_not(alloc, names, piece)
 }
 
-/// Puts what names no interface behind the names so far for a `!`, since all but some interfaces have no names. Other signs say nothing.
+/// Puts the name that no interface has behind the names so far, if the sign is a `!`: the interfaces that it stands for
+/// can't be named. Other signs add nothing.
 fn put_not(alloc: Global, names: &mut Items<Items<u8>>, piece: &[u8]) -> Result<(), AllocError>
     ensures { OnOk result (names.new ≡ names.old ++ spec.names_of_sign piece.now) }
 {
@@ -115,8 +116,8 @@ fn put_all(
     Ok(())
 }
 
-/// Puts what a macro stands for behind the names so far: the words of its value, or no interface's name if that isn't known, or has more
-/// bytes than may still be looked at.
+/// Puts what a macro stands for behind the names so far: the words of its value, or the name that no interface has if
+/// the value isn't known, or has more bytes than may still be read.
 fn put_value(
     alloc: Global,
     given: &Given,

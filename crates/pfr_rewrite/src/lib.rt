@@ -1,4 +1,6 @@
-//! A ruleset text as it is written, rewritten in words that the strict reader knows.
+//! What is rewritten of a whole ruleset text, in words that the strict reader knows.
+//!
+//! A helper of `pfr_adapt`.
 #![tactic(auto)]
 
 mod antispoof;

@@ -17,7 +17,7 @@ use pfr_spelling::known::Known;
 use pfr_spelling::targets::list_len;
 use std::alloc::{AllocError, Global};
 
-/// What a rule with a value is left out for, if it is: a word of the value.
+/// Why a rule with a value is left out, if it is: for a word of the value.
 fn reason_in(alloc: Global, value: &[u8]) -> Result<Option<Reason>, AllocError>
     ensures { IfOk result (λ reason. reason ≡ spec.reason_in value.now) }
 {
@@ -40,7 +40,7 @@ fn are_one(words: &[Mark<'_>]) -> bool
     element_len(Group::Unseen, element) == element.len()
 }
 
-/// Why nothing but these marks as addresses is left out, if it is.
+/// Why addresses are left out that are these marks and nothing else, if they are.
 fn unseen_of(words: &[Mark<'_>]) -> Option<Reason>
     ensures { result ≡ values.unseen_of words.now }
 {
@@ -51,7 +51,7 @@ fn unseen_of(words: &[Mark<'_>]) -> Option<Reason>
     }
 }
 
-/// What a rule with a value as addresses is left out for, if it is.
+/// Why a rule with a value as addresses is left out, if it is.
 fn unseen_in(alloc: Global, value: &[u8]) -> Result<Option<Reason>, AllocError>
     ensures { IfOk result (λ reason. reason ≡ values.unseen_in value.now) }
 {
@@ -59,7 +59,7 @@ fn unseen_in(alloc: Global, value: &[u8]) -> Result<Option<Reason>, AllocError>
     Ok(unseen_of(words.as_slice()))
 }
 
-/// Why a rule is left out for the macro at the front of marks, if it is one with at most `left` bytes.
+/// Why a rule is left out for the macro at the front of marks, if its value has at most `left` bytes.
 fn reason_at(
     alloc: Global,
     known: &Known,
@@ -74,7 +74,7 @@ fn reason_at(
     }
 }
 
-/// Why addresses are left out that are the macro at the front of marks, if it is one with at most `left` bytes.
+/// Why addresses are left out that are the macro at the front of marks, if its value has at most `left` bytes.
 pub(crate) fn unseen_value(
     alloc: Global,
     known: &Known,
@@ -89,7 +89,8 @@ pub(crate) fn unseen_value(
     }
 }
 
-/// Why addresses are left out, if they are: the list at the front of marks, or the macro there, with at most `left` bytes.
+/// Why the addresses at the front of marks are left out, if they are: a list, or a macro whose value has at most `left`
+/// bytes.
 fn unseen_here(
     alloc: Global,
     known: &Known,
@@ -159,8 +160,8 @@ fn said_in<'a>(
     Ok(None)
 }
 
-/// Whether the statement that begins at the front of marks may be left out for what it asks for. No statement is looked at whole for
-/// a bracket or a brace before its first word.
+/// Whether the statement at the front of marks may be left out for its criteria. If it may not, as with a bracket or a
+/// brace before its first word, it isn't read whole.
 fn begins_asking(marks: &[Mark<'_>]) -> bool
     ensures { result ≡ spec.begins_asking marks.now }
 {
@@ -170,7 +171,8 @@ fn begins_asking(marks: &[Mark<'_>]) -> bool
     }
 }
 
-/// The rule at the front of marks as a change, if it is left out for what its macros stand for, and not for its own words.
+/// The rule at the front of marks as a change, if it is left out for what its macros stand for, and not for its own
+/// words.
 #[tactic(auto, unfolding(crate::specs::Unseen::rule_here))]
 pub(crate) fn rule_here<'a>(
     alloc: Global,
@@ -197,7 +199,7 @@ pub(crate) fn rule_here<'a>(
     }
 }
 
-/// Why an element is left out that stands for nothing but what a rule of addresses is left out for.
+/// Why an element is left out that stands only for what a rule of addresses is left out for.
 fn element_reason(reason: Reason) -> Reason
     ensures { result ≡ spec.element_reason reason }
 {
@@ -217,7 +219,8 @@ fn lists_addresses(context: Context) -> bool
     }
 }
 
-/// A macro in a list of addresses that is left out for what it stands for, with the comma that goes with it, as a change.
+/// A macro in a list of addresses that is left out for what it stands for, with the comma that goes with it, as a
+/// change.
 #[tactic(auto, unfolding(crate::specs::Unseen::element_here))]
 pub(crate) fn element_here<'a>(
     alloc: Global,

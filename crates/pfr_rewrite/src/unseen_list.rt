@@ -39,7 +39,8 @@ fn own_why(marks: &[Mark<'_>]) -> Option<Why>
     }
 }
 
-/// Why the element at the front is left out, if it is: for its own words, or for what it stands for as a macro of at most `left` bytes.
+/// Why the element at the front is left out, if it is: for its own words, or for the value of its macro, of at most
+/// `left` bytes.
 #[tactic(auto, unfolding(crate::specs::UnseenLists::element_why))]
 fn element_why(
     alloc: Global,
@@ -63,7 +64,7 @@ fn element_why(
 struct Seen {
     /// How many marks belong to an element before.
     passed: usize,
-    /// How many bytes of macros' values may be looked at.
+    /// How many bytes of macros' values may still be read.
     left: usize,
     /// Why its elements are left out, if it has any.
     reason: Option<Reason>,
@@ -86,7 +87,7 @@ fn reason_of_both(before: Option<Reason>, here: Reason) -> Option<Reason>
     }
 }
 
-/// Whether a mark stands between elements, or before one, and is none.
+/// Whether a mark stands between elements or before one, and belongs to none.
 fn is_between(mark: &Mark<'_>) -> bool
     ensures { result ≡ spec.is_between mark.now }
 {
@@ -117,7 +118,7 @@ impl Seen {
     }
 }
 
-/// How a list goes on behind the element at the front: not if it isn't left out.
+/// How a list goes on behind the element at the front. If the element isn't left out, the list ends.
 #[tactic(auto, unfolding(crate::specs::UnseenLists::element_step))]
 fn element_step(
     alloc: Global,
@@ -158,7 +159,8 @@ fn list_step(
     element_step(alloc, known, seen, marks)
 }
 
-/// Why all elements of a list are left out, whose first mark behind the brace stands at the front, if they are and there is one.
+/// Why all elements of a list are left out, if they are and there is one. At the front stands the first mark behind the
+/// list's brace.
 pub(crate) fn unseen_list(
     alloc: Global,
     known: &Known,

@@ -17,7 +17,7 @@ use pfr_spelling::tables::tables;
 use pfr_spelling::targets::target_here;
 use std::alloc::{AllocError, Global};
 
-/// How many bytes of macros' values are looked at in a text.
+/// How many bytes of macros' values are read at most in a text.
 const MOST_BYTES: usize = 4_194_304;
 
 /// What is rewritten at the front of marks in a statement, by what is known beside it.
@@ -109,7 +109,8 @@ struct At {
     passed: usize,
 }
 
-/// Puts what is rewritten at the front of marks behind the changes so far, and answers how many of the marks behind belong to a change.
+/// Puts what is rewritten at the front of marks behind the changes so far, and answers how many of the marks behind
+/// belong to a change.
 fn step<'a>(
     alloc: Global,
     changes: &mut Items<Change<'a>>,
@@ -131,7 +132,7 @@ fn step<'a>(
     )
 }
 
-/// Where the statement begins that a mark stands in, by where the one of the mark before does.
+/// Where a mark's statement begins. `before` is where the statement of the mark before begins.
 fn begin_at(context: Context, before: usize, here: usize) -> usize
     ensures { result ≡ spec.begin_at context before here }
 {
@@ -192,8 +193,8 @@ fn changes_of<'a>(
     Ok(changes)
 }
 
-/// What is rewritten of a text for interfaces of these names, from its beginning to its end: nothing if a brace isn't closed, or closes
-/// nothing, since then nobody knows where a statement ends.
+/// What is rewritten of a text for interfaces of these names, from its beginning to its end. Nothing is if a brace
+/// isn't closed, or closes nothing, since then it isn't known where a statement ends.
 #[tactic(auto, unfolding(crate::specs::Whole::changes))]
 pub fn changes<'a>(
     alloc: Global,

@@ -94,7 +94,7 @@ by_place_one p n place (Some s) is within holds = elim (cases_lt place s) [
   | inr after ↦ (s, is, after)
 ]
 
--- where a test holds at a place, the first one is there or before it
+-- if a test holds at a place, the first one is there or before it
 pub by_place : (p : ℕ → Bool) (n place : ℕ) → place < n → p place ≡ true → (s : ℕ) × (first_below p n ≡ Some s) × (s ≤ place)
 by_place p n place within holds = by_place_one p n place (first_below p n) refl within holds
 

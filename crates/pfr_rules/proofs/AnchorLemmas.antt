@@ -1,4 +1,4 @@
--- One anchor for another where no rule in it hits, and what an anchor shuts out.
+-- One anchor for another if no rule in it hits, and what an anchor shuts out.
 use Rattle.std.proofs.Common.{◌≡◌, ◌∙◌, ◌≤◌, ◌+◌, ◌&&◌, ◌||◌, ◌==◌, inl, inr, ℕ, zero, suc, nat_le, Bool, true, false, not, List, [], ◌∷◌, ◌++◌, length, ap, sym, refl, arith}
 use Rattle.std.specs.List.{Contains, slice_get, list_any, list_all, filter}
 use Rattle.std.proofs.lemmas.Bool.{cases_lt, leb-true, le-leb, lt-leb}

@@ -26,12 +26,12 @@ use Rattle.pfr_rules.proofs.UnvisitedLemmas.{number_there}
 pub stricter : (flat : Ruleset) (rooms : Rooms) (name : IfName) (packet : Packet) (direction : Direction) (place : ℕ) → IsStricter (ruled flat name packet direction) (matched flat rooms name packet direction place)
 stricter flat rooms name packet direction place rule fails = and_left (ruled flat name packet direction rule) (has_room_by rooms place (limit_for rule packet)) fails
 
--- and nothing is asked of it
+-- and it is asked nothing
 none_asked : (flat : Ruleset) (name : IfName) (packet : Packet) (direction : Direction) (place : ℕ) (found : Option FlatRule) → passes (ruled flat name packet direction) found ≡ false → asked_of flat name packet direction place found ≡ []
 none_asked flat name packet direction place None fails = refl
 none_asked flat name packet direction place (Some rule) fails = rw fails refl
 
--- so nothing is asked of a run of such rules
+-- so no rule of such a run is asked
 run_asks : (ask : ℕ → List Question) (first n : ℕ) → ((q : ℕ) → first ≤ q → q < first + n → ask q ≡ []) → flat_map ask (numbers_from first n) ≡ []
 run_asks ask first zero none = refl
 run_asks ask first (suc n) none =
@@ -59,7 +59,7 @@ module _ (flat : Ruleset) (name : IfName) (packet : Packet) (direction : Directi
       subst (λ questions. All P questions) (sym (ap (λ (numbers : List ℕ). flat_map ask numbers) more_is ∙ flat_map-append ask visits (numbers_from place (to + 1 - place)) ∙ ap (λ (those : List Question). flat_map ask visits ++ those) last))
       (All-append P (flat_map ask visits) (asked_of flat name packet direction to (Some rule)) asked asks)
 
--- what was asked of all visits, where these are the visits of a packet
+-- what was asked of all visits, if these are the visits of a packet
 pub asked_for : (flat : Ruleset) (rooms : Rooms) (name : IfName) (packet : Packet) (direction : Direction) (visits : List ℕ) (P : Question → Type 0) → visits ≡ visited flat rooms name packet direction → All P (flat_map (asked_at flat name packet direction) visits) → All P (rooms_asked flat rooms name packet direction)
 asked_for flat rooms name packet direction visits P are asked = subst (λ (numbers : List ℕ). All P (flat_map (asked_at flat name packet direction) numbers)) are asked
 

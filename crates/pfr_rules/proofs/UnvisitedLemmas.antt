@@ -27,7 +27,7 @@ number_there p (suc n) k below held = elim (cases_lt k n) [
 neither : (a b c d : Bool) → b ≡ false → d ≡ false → (a && b) ≡ (c && d)
 neither a b c d first second = and_right a b first ∙ sym (and_right c d second)
 
--- a test of two parts fails where the second one does
+-- a test of two parts fails if the second one does
 no_room : (found : Option FlatRule) (rule : FlatRule) (holds : FlatRule → Bool) (rooms : Rooms) (place most : ℕ) (packet : Packet) → found ≡ Some rule → limit_for rule packet ≡ Some most → rooms place most ≡ false
     → passes (λ r. holds r && has_room_by rooms place (limit_for r packet)) found ≡ false
 no_room found rule holds rooms place most packet at limit none = rw (at, limit, none) (and_right (holds rule) false refl)

@@ -19,15 +19,15 @@ pub record IsFollowed (index : Index) (packet : Packet) (from shape place : ℕ)
   pub before : low ≤ from
   pub next : IsNext index.chains (key_in index packet shape) low place
 
--- the packet follows the chain of each shape; behind the last shape comes the one that pins nothing
+-- the packet follows the chain of each shape; behind the last shape comes the chain of the rules that pin nothing
 abbrev pub AreFollowed : Index → Packet → ℕ → List ℕ → Type 0
 AreFollowed index packet from places = (shape : ℕ) → shape ≤ length index.shapes → IsFollowed index packet from shape (slice_index_or places shape 0)
 
--- none of the rules from a place on and before another one has the packet's key of a shape
+-- no rule from a place on and before another place has the packet's key of a shape
 abbrev pub NoneHasKey : Index → Packet → ℕ → ℕ → ℕ → Type 0
 NoneHasKey index packet from to shape = (k : ℕ) → from ≤ k → k < to → slice_get index.chains k ≢ Some (key_in index packet shape)
 
--- none of them has it of any shape
+-- no such rule has the packet's key of any shape
 abbrev pub NoneIsCandidate : Index → Packet → ℕ → ℕ → Type 0
 NoneIsCandidate index packet from to = (shape : ℕ) → shape ≤ length index.shapes → NoneHasKey index packet from to shape
 
@@ -48,14 +48,14 @@ abbrev pub IsFollowingBy : Option FilterAids → Packet → ℕ → Trail → Ty
 IsFollowingBy None packet from trail = ⊤
 IsFollowingBy (Some aids) packet from trail = IsFollowingIn aids.rules.index packet from trail
 
--- the first candidate at or behind a place, and where the packet is then
+-- the first candidate at or behind a place, and the packet's places then
 pub record IsCandidate (index : Index) (packet : Packet) (from candidate : ℕ) (trail : Trail) : Type 0 where
   pub ahead : from ≤ candidate
   pub within : candidate ≤ length index.chains
   pub none : NoneIsCandidate index packet from candidate
   pub followed : IsFollowing index packet from trail
 
--- whoever follows a packet's chains from a place on finds the next candidate
+-- for each packet that follows its chains from a place on, the next candidate is found
 abbrev pub FindsCandidate : Index → ℕ → Trail → ℕ → Trail → Type 0
 FindsCandidate index from before candidate after = (packet : Packet) → IsFollowing index packet from before → IsCandidate index packet from candidate after
 
@@ -69,20 +69,20 @@ abbrev pub IsIndexRight : Option Index → Type 0
 IsIndexRight None = ⊤
 IsIndexRight (Some index) = (length index.shapes ≤ 15) × (0 < index.size)
 
--- the same as `FindsCandidate`, where without an index the place itself is a candidate
+-- the same as `FindsCandidate`, except that without an index the place itself is a candidate
 abbrev pub FindsAsked : Option Index → ℕ → Trail → ℕ → Trail → Type 0
 FindsAsked None from before candidate after = candidate ≡ from
 FindsAsked (Some index) from before candidate after = FindsCandidate index from before candidate after
 
 -- ---- while the chains are gone along
 
--- the first of them have been begun, and the least of their first rules is known
+-- the first `bound` chains have been begun, and `least` is the least of their first rules
 pub record IsBegun (bound : ℕ) (index : Index) (packet : Packet) (least : ℕ) (places : List ℕ) : Type 0 where
   pub within : least ≤ length index.chains
   pub none : (shape : ℕ) → shape < bound → NoneHasKey index packet 0 least shape
   pub followed : (shape : ℕ) → shape < bound → IsFollowed index packet 0 shape (slice_index_or places shape 0)
 
--- the first of them have been gone along, and the least of their places is known
+-- the first `bound` chains have been gone along, and `least` is the least of their places
 pub record IsPassed (bound : ℕ) (index : Index) (packet : Packet) (from least : ℕ) (places : List ℕ) : Type 0 where
   pub ahead : from ≤ least
   pub within : least ≤ length index.chains

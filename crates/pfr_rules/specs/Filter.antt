@@ -1,9 +1,9 @@
 -- Which rule decides, and which rules are visited on the way (pf.conf(5), "Packet filtering", "Anchors").
 --
--- All is said by the places of rules in a flat list. A rule hits if all that it writes holds of the packet, and all that the
--- anchors round it write. One with `max` has to have room too, for a packet that may make a state: there have to be fewer of
--- its states than it says. A stop is the place of a quick rule that hits, or the place of the last rule of a quick anchor in
--- which a rule hits. Reached are the rules up to the first stop, all of them where there is none.
+-- All is said by the places of rules in a flat list. A rule hits if all that it writes holds for the packet, and all
+-- that the anchors round it write. A rule with `max` must also have room, for a packet that may make a state: it must
+-- have fewer states than it says. A stop is the place of a quick rule that hits, or the place of the last rule of a
+-- quick anchor in which a rule hits. The rules up to the first stop are reached, or all rules if there is no stop.
 use Rattle.std.specs.Prelude.{ℕ, zero, suc, ◌+◌, ◌==◌, ◌&&◌, ◌||◌, Bool, true, false, not, nat_le, if◌then◌else◌, List, [], ◌∷◌, length, Option, Some, None}
 use Rattle.std.specs.List.{slice_get, list_any, list_all, filter, flat_map}
 use Rattle.pfr_net.specs.declared.direction.Direction.{Direction}
@@ -36,7 +36,7 @@ abbrev pub or_place : Option ℕ → Option ℕ → Option ℕ
 or_place (Some place) later = Some place
 or_place None later = later
 
--- the first one
+-- the first such place
 abbrev pub first_below : (ℕ → Bool) → ℕ → Option ℕ
 first_below p zero = None
 first_below p (suc n) = or_place (first_below p n) (if p n then Some n else None)
@@ -89,7 +89,7 @@ abbrev pub stops_by : ℕ → Option ℕ → Bool
 stops_by opening None = false
 stops_by opening (Some place) = nat_le opening place
 
--- how many rules are reached
+-- the number of rules that are reached
 abbrev pub up_to : Option ℕ → ℕ → ℕ
 up_to None all = all
 up_to (Some stop) all = stop + 1
@@ -99,7 +99,7 @@ reach_by hit lists = up_to (first_below (is_stop hit lists) (length lists.rules)
 
 -- ---- room
 
--- whether the rule with a number has room for one more state, where it may have so many
+-- whether the rule with a number has room for one more state, if the second number is its limit
 abbrev pub Rooms : Type 0
 Rooms = ℕ → ℕ → Bool
 
@@ -111,7 +111,7 @@ abbrev pub most_of : Option StateRule → Option ℕ
 most_of None = None
 most_of (Some state) = state.most
 
--- how many states a rule may have, if it says so and the packet may make one
+-- the limit of a rule's states, if it has one and the packet may make a state
 abbrev pub limit_for : FlatRule → Packet → Option ℕ
 limit_for rule packet = if opens_connection packet.transport then most_of rule.state else None
 
@@ -131,7 +131,7 @@ anchored flat name packet direction anchor = anchor_holds anchor name flat.table
 abbrev pub ruled : Ruleset → IfName → Packet → Direction → FlatRule → Bool
 ruled flat name packet direction rule = rule_holds rule name flat.tables packet direction
 
--- all that the rule with a number writes holds, and it has room
+-- all that the rule with a number writes holds, and the rule has room
 abbrev pub matched : Ruleset → Rooms → IfName → Packet → Direction → ℕ → FlatRule → Bool
 matched flat rooms name packet direction number rule = ruled flat name packet direction rule && has_room_by rooms number (limit_for rule packet)
 
@@ -141,7 +141,7 @@ hit flat rooms name packet direction = hits (anchored flat name packet direction
 unfoldable pub reach : Ruleset → Rooms → IfName → Packet → Direction → ℕ
 reach flat rooms name packet direction = reach_by (hit flat rooms name packet direction) flat.filter
 
--- the place of the rule that decides: the last that hits of those that are reached
+-- the place of the rule that decides: the last one that hits, of the rules that are reached
 unfoldable pub deciding : Ruleset → Rooms → IfName → Packet → Direction → Option ℕ
 deciding flat rooms name packet direction = last_below (hit flat rooms name packet direction) (reach flat rooms name packet direction)
 
@@ -157,13 +157,13 @@ decision_by rules (Some place) = record { rule = Some (record { 0 = place }); ac
 abbrev pub decision_of : Ruleset → Rooms → IfName → Packet → Direction → Decision
 decision_of flat rooms name packet direction = decision_by flat.filter.rules (deciding flat rooms name packet direction)
 
--- the numbers of the rules that are visited: of those that are reached all whose anchors hold
+-- the numbers of the rules that are visited: the rules that are reached and whose anchors all hold
 unfoldable pub visited : Ruleset → Rooms → IfName → Packet → Direction → List ℕ
 visited flat rooms name packet direction = filter (is_inside (anchored flat name packet direction) flat.filter.anchors) (numbers_below (reach flat rooms name packet direction))
 
 -- ---- what is asked
 
--- a visited rule is asked whether it has room, if all that it writes holds and it says how many states it may have
+-- a visited rule is asked whether it has room, if all that it writes holds and it has a limit of states
 abbrev pub asked_of : Ruleset → IfName → Packet → Direction → ℕ → Option FlatRule → List Question
 asked_of flat name packet direction number None = []
 asked_of flat name packet direction number (Some rule) = if ruled flat name packet direction rule then room_question number (limit_for rule packet) else []
@@ -171,6 +171,6 @@ asked_of flat name packet direction number (Some rule) = if ruled flat name pack
 abbrev pub asked_at : Ruleset → IfName → Packet → Direction → ℕ → List Question
 asked_at flat name packet direction place = asked_of flat name packet direction place (slice_get flat.filter.rules place)
 
--- what is asked of all that are visited
+-- the questions for all rules that are visited
 abbrev pub rooms_asked : Ruleset → Rooms → IfName → Packet → Direction → List Question
 rooms_asked flat rooms name packet direction = flat_map (asked_at flat name packet direction) (visited flat rooms name packet direction)

@@ -1,5 +1,5 @@
--- Words of the laws: rulesets that are the same up to a place, or but for one rule or one anchor; packets that go the same
--- way, and rules that they pass by.
+-- Words of the laws: rulesets that are the same up to a place, or except for one rule or one anchor; packets that go
+-- the same way, and rules that they pass by.
 use Rattle.std.specs.Prelude.{◌≡◌, ◌≢◌, ◌≤◌, ◌+◌, ◌-◌, ◌==◌, ℕ, min, Bool, true, false, nat_le, List, ◌∷◌, ◌++◌, length, map, IsSomeAnd, Some, true}
 use Rattle.std.specs.List.{All, Contains, count_by, slice_get, filter}
 use Rattle.pfr_net.specs.declared.address.Ipv4Address.{Ipv4Address}
@@ -35,7 +35,7 @@ begins_by place anchor = nat_le anchor.first place
 abbrev pub cut_at : ℕ → FlatAnchor → FlatAnchor
 cut_at place anchor = record anchor { last = min anchor.last place }
 
--- what stands of anchors up to a place
+-- what anchors have up to a place
 abbrev pub anchors_up_to : ℕ → List FlatAnchor → List FlatAnchor
 anchors_up_to place anchors = map (cut_at place) (filter (begins_by place) anchors)
 
@@ -48,7 +48,7 @@ pub record IsSameUpTo (place : ℕ) (flat other : Ruleset) : Type 0 where
   -- the anchors that begin up to the place, and which rules up to it stand in them
   pub anchors_are : anchors_up_to place other.filter.anchors ≡ anchors_up_to place flat.filter.anchors
 
--- ---- rulesets that are the same but for one rule
+-- ---- rulesets that are the same except for one rule
 
 -- the rule at a place may differ, and nothing else that a filter asks for
 pub record IsSameBut (place : ℕ) (flat other : Ruleset) : Type 0 where
@@ -61,7 +61,7 @@ pub record IsSameBut (place : ℕ) (flat other : Ruleset) : Type 0 where
   -- the rules at all other places
   pub rules_are : (at : ℕ) → at ≢ place → slice_get other.filter.rules at ≡ slice_get flat.filter.rules at
 
--- ---- rulesets that are the same but for one anchor
+-- ---- rulesets that are the same except for one anchor
 
 -- the same anchor, quick or not
 abbrev pub quick_or_not : Bool → FlatAnchor → FlatAnchor
@@ -71,7 +71,7 @@ quick_or_not quick anchor = record anchor { is_quick = quick }
 abbrev pub asking_like : FlatAnchor → FlatAnchor → FlatAnchor
 asking_like asked anchor = record anchor { direction = asked.direction; packet = asked.packet }
 
--- another anchor stands for one, and nothing else that a filter asks for may differ
+-- one anchor is replaced by another, and nothing else that a filter asks for may differ
 pub record IsSameButAnchor (anchor changed : FlatAnchor) (flat other : Ruleset) : Type 0 where
   -- all tables are the same
   pub tables_are : other.tables ≡ flat.tables
@@ -102,14 +102,14 @@ pub record GoesTheSameWay (flat other : Ruleset) (rooms : Rooms) (name : IfName)
 
 -- ---- rooms
 
--- two rooms answer a question alike; another question than that of a rule's room is no matter of theirs
+-- two rooms give the same answer to a question; questions other than about a rule's room don't concern them
 abbrev pub SameRoom : Rooms → Rooms → Question → Type 0
 SameRoom rooms other (RuleRoom rule most) = other rule.0 most ≡ rooms rule.0 most
 SameRoom rooms other elsewhere = rooms ≡ rooms
 
 -- ---- what the laws say
 
--- what stands behind a quick rule that hits says nothing
+-- what stands behind a quick rule that hits doesn't matter
 abbrev pub BehindAQuickHit : Type 0
 BehindAQuickHit =
     (flat other : Ruleset) (rooms : Rooms) (name : IfName) (packet : Packet) (direction : Direction) (place : ℕ) (rule : FlatRule)
@@ -119,7 +119,7 @@ BehindAQuickHit =
     → IsSameUpTo place flat other
     → GoesTheSameWay flat other rooms name packet direction
 
--- a rule that a packet doesn't visit says nothing of it
+-- a rule that a packet doesn't visit doesn't matter to it
 abbrev pub WhatIsNotVisited : Type 0
 WhatIsNotVisited =
     (flat other : Ruleset) (rooms : Rooms) (name : IfName) (packet : Packet) (direction : Direction) (place : ℕ)
@@ -127,7 +127,7 @@ WhatIsNotVisited =
     → IsSameBut place flat other
     → GoesTheSameWay flat other rooms name packet direction
 
--- whether an anchor is quick says nothing where no rule in it hits
+-- whether an anchor is quick doesn't matter if no rule in it hits
 abbrev pub QuickWithoutAHit : Type 0
 QuickWithoutAHit =
     (flat other : Ruleset) (rooms : Rooms) (name : IfName) (packet : Packet) (direction : Direction) (anchor : FlatAnchor) (quick : Bool)
@@ -135,7 +135,7 @@ QuickWithoutAHit =
     → IsSameButAnchor anchor (quick_or_not quick anchor) flat other
     → GoesTheSameWay flat other rooms name packet direction
 
--- what an anchor asks for, it asks for the rules in it alone
+-- what an anchor asks for matters to the rules in it alone
 abbrev pub AnchorAsksForItsOwn : Type 0
 AnchorAsksForItsOwn =
     (flat other : Ruleset) (rooms : Rooms) (name : IfName) (packet : Packet) (direction : Direction) (anchor asked : FlatAnchor)
@@ -154,14 +154,14 @@ AnchorLetsNothingIn =
     → place ≤ anchor.last
     → PassesBy flat rooms name packet direction place
 
--- rooms that answer alike what is asked of them make no difference
+-- rooms that give the same answers to what is asked make no difference
 abbrev pub WhatIsNotAsked : Type 0
 WhatIsNotAsked =
     (flat : Ruleset) (rooms other : Rooms) (name : IfName) (packet : Packet) (direction : Direction)
     → All (SameRoom rooms other) (rooms_asked flat rooms name packet direction)
     → (deciding flat other name packet direction ≡ deciding flat rooms name packet direction) × (visited flat other name packet direction ≡ visited flat rooms name packet direction)
 
--- a rule that decides on a packet which may make a state has room for it
+-- a rule that decides on a packet that may make a state has room for it
 abbrev pub DecidesWithRoom : Type 0
 DecidesWithRoom =
     (flat : Ruleset) (rooms : Rooms) (name : IfName) (packet : Packet) (direction : Direction) (place most : ℕ) (rule : FlatRule)
@@ -170,7 +170,7 @@ DecidesWithRoom =
     → limit_for rule packet ≡ Some most
     → rooms place most ≡ true
 
--- a rule without room lets a packet by as a rule does that asks for something else, and is visited as that one is
+-- a rule without room lets a packet by like a rule that asks for something else, and is visited like that one
 abbrev pub NoRoomLetsBy : Type 0
 NoRoomLetsBy =
     (flat other : Ruleset) (rooms : Rooms) (name : IfName) (packet : Packet) (direction : Direction) (place most : ℕ) (rule : FlatRule)
@@ -189,7 +189,8 @@ VisitsARuleOnce =
 
 -- ---- translation
 
--- a packet that a `binat` rule holds for gets the target as its source, and what comes in by the rule gets that source back
+-- a packet for which a `binat` rule holds gets the target as its source, and a packet that comes in by the rule gets
+-- that source back
 abbrev pub BinatGivesTheSourceBack : Type 0
 BinatGivesTheSourceBack =
     (rule : FlatTranslation Ipv4Address) (address target : Ipv4Address) (packet answer : Packet)
@@ -207,7 +208,7 @@ MovedPortsKeepTheirDistance =
     → port ≤ high
     → mapped (mapping (Some (Range Inclusive low high)) (From first)) (record { 0 = port }) ≡ record { 0 = first + (port - low) }
 
--- `port low -> port first:*` makes the one port the first one
+-- `port low -> port first:*` turns the one port into the first one
 abbrev pub OnePortBecomesTheFirst : Type 0
 OnePortBecomesTheFirst =
     (first port : ℕ)

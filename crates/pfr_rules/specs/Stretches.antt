@@ -11,7 +11,7 @@ use Rattle.pfr_rules.specs.Filter.{passes}
 abbrev pub HoldsAt : {R : Type 0} → (R → Bool) → List R → ℕ → Type 0
 HoldsAt ruled rules place = passes ruled (slice_get rules place) ≡ true
 
--- none of the rules from a place on and before another one holds
+-- no rule from a place on and before another place holds
 abbrev pub NoneHolds : {R : Type 0} → (R → Bool) → List R → ℕ → ℕ → Type 0
 NoneHolds ruled rules from to = (q : ℕ) → from ≤ q → q < to → passes ruled (slice_get rules q) ≡ false
 
@@ -23,17 +23,17 @@ NoneStops lists from to = (q : ℕ) → from ≤ q → q < to → q ≤ opening_
 abbrev pub NoneOpens : List ℕ → ℕ → ℕ → Type 0
 NoneOpens openings from to = (q : ℕ) → from ≤ q → q < to → q ≤ slice_index_or openings q 0
 
--- where the next anchor begins, or the end
+-- the place at which the next anchor begins, or the end
 abbrev pub next_first : Option FlatAnchor → ℕ → ℕ
 next_first None end = end
 next_first (Some anchor) end = min anchor.first end
 
--- a place behind a rule that fails, before which none holds
+-- a place behind a rule that fails; no rule between holds
 pub record IsBehind {R : Type 0} (ruled : R → Bool) (rules : List R) (place next : ℕ) : Type 0 where
   pub ahead : place < next
   pub within : next ≤ length rules
   pub fails : NoneHolds ruled rules place next
 
--- how far walks may go without a look at their last hit is known for these openings
+-- how far walks may go without a look at their last hit, for these openings
 abbrev pub AreEndsFor : List ℕ → FilterAids → Type 0
 AreEndsFor openings aids = AreOpenEnds openings aids.open_ends.items

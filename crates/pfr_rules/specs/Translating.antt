@@ -1,8 +1,9 @@
--- Which translation rule translates a packet, to what, and which rules are visited on the way (pf.conf(5), "Translation").
+-- Which translation rule translates a packet, to what, and which rules are visited on the way (pf.conf(5),
+-- "Translation").
 --
--- The rules of a kind are asked in the order in which they are written, up to the first that holds. That one translates the
--- packet; behind `no` it ends its kind. `binat` rules are asked first. Where none of them translates the packet, `rdr` rules are
--- asked for one that comes in, and `nat` rules for one that goes out.
+-- The rules of a kind are asked in the order in which they are written, up to the first one that holds. That one
+-- translates the packet; with `no` it ends its kind. `binat` rules are asked first. If none of them translates the
+-- packet, `rdr` rules are asked for a packet that comes in, and `nat` rules for one that goes out.
 use Rattle.std.specs.Prelude.{ℕ, ◌+◌, ◌-◌, min, Bool, if◌then◌else◌, List, [], ◌∷◌, ◌++◌, Option, Some, None}
 use Rattle.std.specs.List.{find}
 use Rattle.std.specs.Option.{option_map}
@@ -37,13 +38,13 @@ first_port None = record { 0 = 0 }
 first_port (Some (port.Compare comparison written)) = record { 0 = written }
 first_port (Some (port.Range operator low high)) = record { 0 = low }
 
--- what a rule that asks for these destination ports makes of them
+-- the mapping of ports by a rule that asks for these destination ports
 abbrev pub mapping : Option PortMatch → PortChange → PortMapping
 mapping ports change.Kept = Kept
 mapping ports (change.To to) = To (record { 0 = to })
 mapping ports (change.From to) = Shifted (first_port ports) (record { 0 = to })
 
--- where ports are moved by one distance none gets past 65535, as those are refused that would
+-- ports that are moved by one distance don't get past 65535: rules with which they would are refused
 abbrev pub mapped : PortMapping → Port → Port
 mapped Kept from = from
 mapped (To to) from = to
@@ -61,7 +62,7 @@ nat_hit rule = hit_by Picked rule
 abbrev pub rdr_hit : FlatTranslation RdrAddress → Option Hit
 rdr_hit rule = hit_by (λ target. Mapped target.address (mapping rule.packet.destination_port target.port)) rule
 
--- the one address at a `binat` rule's `from`; this one where several are written there, which a rule with a target hasn't
+-- the address at a `binat` rule's `from`, or `other` if several are written there, which a rule with a target never has
 abbrev pub address_or : Ipv4Address → HostSet → Ipv4Address
 address_or other (set.Network network) = network.address
 address_or other hosts = other
@@ -76,7 +77,8 @@ binat_hit packet direction rule = hit_by (binat_end packet direction rule) rule
 
 -- ---- the rules of a kind
 
--- how rules of a kind are asked: whether one holds for a packet on the interface of a name, what it makes of it, and its number
+-- how rules of a kind are asked: whether one holds for a packet on the interface of a name, what it makes of it, and
+-- its number
 pub record Kind (R : Type 0) : Type 0 where
   pub holds : Ruleset → IfName → Packet → Direction → R → Bool
   pub hit : Packet → Direction → R → Option Hit
@@ -108,7 +110,7 @@ hit_of_first hit (Some rule) = hit rule
 abbrev pub hit_in : {R : Type 0} → Kind R → Ruleset → IfName → Packet → Direction → List R → Option Hit
 hit_in kind flat name packet direction rules = hit_of_first (kind.hit packet direction) (find (kind.holds flat name packet direction) rules)
 
--- of each thing up to the first for which a test holds, or of all where it holds for none
+-- `of` each element up to the first one for which a test holds, or of all if it holds for none
 abbrev pub up_to_first : {A B : Type 0} → (A → Bool) → (A → B) → List A → List B
 up_to_first test of [] = []
 up_to_first test of (x ∷ xs) = of x ∷ (if test x then [] else up_to_first test of xs)
@@ -122,7 +124,7 @@ asked_in kind flat name packet direction rules = up_to_first (kind.holds flat na
 abbrev pub binat_of : Ruleset → IfName → Packet → Direction → Option Hit
 binat_of flat name packet direction = hit_in binats flat name packet direction flat.translations.binats
 
--- by the kind that is asked behind `binat`
+-- by the kind that is asked after `binat`
 abbrev pub other_hit : Ruleset → IfName → Packet → Direction → Option Hit
 other_hit flat name packet In = hit_in rdrs flat name packet In flat.translations.rdrs
 other_hit flat name packet Out = hit_in nats flat name packet Out flat.translations.nats

@@ -7,12 +7,12 @@ use pfr_headers::Packet;
 use pfr_ruleset::shape::{NO_SHAPE, shape_at};
 use pfr_ruleset::{Aids, Index};
 
-/// Where a packet is on the chains that it follows: one for each shape, and one for the rules that count as of none.
+/// The places of a packet on the chains that it follows: one for each shape, and one for the rules that pin nothing.
 #[derive(Clone, Copy)]
 pub(crate) struct Trail {
-    /// Its places on the chains in the order of the shapes. The chain of the rules that pin nothing is the last one.
+    /// The places on the chains, in the order of the shapes. The chain of the rules that pin nothing is the last one.
     places: [usize; 16],
-    /// No rule before it is on a chain of a shape, from where the packet has come to.
+    /// From where the packet has come to, no rule before this place is on the chain of a shape.
     pinned: usize,
 }
 
@@ -26,7 +26,7 @@ impl Trail {
     }
 }
 
-/// Goes to the first rule of the chain of each shape, and answers the least of them or the number of rules.
+/// Goes to the first rule of the chain of each shape, and answers the least of these places, or the number of rules.
 fn begin_pinned(index: &Index, packet: &Packet, places: &mut [usize; 16]) -> usize
     requires few { length index.now.shapes ≤ 15 }
     requires sized { 0 < index.now.size }

@@ -2,7 +2,7 @@
 use pfr_net::RuleNumber;
 use pfr_ruleset::FilterAction;
 
-/// What becomes of a packet, and by which rule. No rule means that none hit.
+/// What becomes of a packet, and by which rule. If no rule is named, none hit.
 #[derive(Clone, Copy)]
 pub struct Decision {
     pub rule: Option<RuleNumber>,

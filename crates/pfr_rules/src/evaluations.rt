@@ -8,7 +8,8 @@ use crate::visits::Visits;
 use std::alloc::{AllocError, Global};
 use std::marker::Model;
 
-/// What is counted of one rule: how often it was evaluated alone, and how many runs of rules begin with it and end before it.
+/// The counts of one rule: how often it was evaluated alone, and how many runs of rules begin with it and end before
+/// it.
 #[derive(Clone, Copy)]
 pub(crate) struct Tally {
     alone: u64,
@@ -16,8 +17,9 @@ pub(crate) struct Tally {
     ended: u64,
 }
 
-/// How often each rule was evaluated. Contracts see the list of these counts. A packet mostly visits the rules from the first one
-/// to the one that decides, so that runs of rules are counted by their two ends, and it doesn't matter how many rules are between.
+/// How often each rule was evaluated. Contracts see the list of these counts. A packet mostly visits the rules from the
+/// first one to the one that decides. So runs of rules are counted at their two ends, whatever the number of rules
+/// between.
 #[derive(Drop)]
 pub struct Evaluations {
     tallies: Vec<Tally>,
@@ -108,7 +110,7 @@ fn counts_of(alloc: Global, tallies: &[Tally]) -> Result<Vec<u64>, AllocError>
 }
 
 impl Evaluations {
-    /// None yet of so many rules.
+    /// Counts of 0 for `rules` rules.
     #[tactic(auto, using(crate::proofs::Tallies::counts_none, crate::proofs::Tallies::balances_none))]
     pub fn new(alloc: Global, rules: usize) -> Result<Evaluations, AllocError>
         ensures { IfOk result (λ evaluations. evaluations ≡ replicate rules 0) }

@@ -1,4 +1,4 @@
-//! What a translation rule makes of a packet that it holds for.
+//! What a translation rule that holds makes of a packet.
 ghost use Rattle.std.specs.Prelude.{◌≡◌};
 ghost use Rattle.pfr_rules.specs.Translating as spec;
 
@@ -10,14 +10,14 @@ use pfr_ruleset::{NatAddress, PortChange, PortMatch};
 pub enum PortMapping {
     Kept,
     To(Port),
-    /// The first port goes to the second, and every other one as far.
+    /// The first port becomes the second one, and every other port is moved by the same distance.
     Shifted(Port, Port),
 }
 
-/// What stands at the end of a packet that is translated.
+/// What stands at the translated end of a packet.
 #[derive(Clone, Copy)]
 pub enum NewEnd {
-    /// This address, and a port by the one that stands there.
+    /// This address, and a port by the port of the packet.
     Mapped(Ipv4Address, PortMapping),
     /// An address, and a port that is picked.
     Picked(NatAddress),
@@ -33,7 +33,7 @@ pub struct Hit {
     pub new_end: NewEnd,
 }
 
-/// The first of the ports that are asked for.
+/// The first of the ports that a rule asks for.
 #[inline]
 fn first_port(ports: Option<PortMatch>) -> Port
     ensures { result ≡ spec.first_port ports }
@@ -45,7 +45,7 @@ fn first_port(ports: Option<PortMatch>) -> Port
     }
 }
 
-/// What a rule that asks for these destination ports makes of them.
+/// The mapping of ports by a rule that asks for these destination ports.
 #[inline]
 pub(crate) fn mapping(ports: Option<PortMatch>, change: PortChange) -> PortMapping
     ensures { result ≡ spec.mapping ports change }

@@ -1,9 +1,9 @@
-//! Which rule of a ruleset decides on a packet.
+//! Which rule of a ruleset decides on a packet. A helper of `pfr_packet`, `pfr_record` and `pfr_commit`.
 //!
-//! [`filter`] answers what pf.conf(5) says under "Packet filtering" and "Anchors": the last rule that hits decides, unless a
-//! `quick` rule or anchor ends the walk before. A rule with `max` hits only where it has room for one more state, which
-//! [`RuleRoom`] answers. The contract says so by the places of rules in a flat list, and says which rules were visited on
-//! the way and of which rules the room was asked.
+//! [`filter`] answers what pf.conf(5) says under "Packet filtering" and "Anchors": the last rule that hits decides,
+//! unless a `quick` rule or anchor ends the walk before. A rule with `max` hits only if it has room for one more state,
+//! which [`RuleRoom`] answers. The contract says so by the places of rules in a flat list. It also says which rules
+//! were visited on the way, and which rules were asked for their room.
 //!
 //! [`translate`] answers what it says under "Translation": the first rule of a kind that holds decides.
 #![tactic(auto)]

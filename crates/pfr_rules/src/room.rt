@@ -14,14 +14,14 @@ use pfr_net::{Direction, IfName, RuleNumber};
 use pfr_ruleset::{FlatRule, Ruleset};
 use std::alloc::AllocError;
 
-/// Answers whether rules have room. All answers of one value are those of one table at one clock. It knows which questions were
-/// asked: each that it answers is one of them from then on.
+/// Answers whether rules have room. All answers of one value are those of one table at one clock. The value knows which
+/// questions were asked: each question that it answers is one of them from then on.
 pub trait RuleRoom {
-    /// The table as it is once the states are gone whose deadline has come.
+    /// The table as it is once the states whose deadline has come are gone.
     ghost seen: { Self → StateTable };
-    /// What was asked so far.
+    /// The questions that were asked so far.
     ghost asked: { Self → Question → Type 0 };
-    /// Whether there is room for one more state of a filter rule that may have so many.
+    /// Whether there is room for one more state of a filter rule that may have `most` states.
     fn rule_room(&mut self, rule: RuleNumber, most: u32) -> Result<bool, AllocError>
         ensures seen { seen self.new ≡ seen self.old }
         ensures answer { IfOk result (λ room. room ≡ has_rule_room_in (seen self.old) rule.0 most) }
@@ -29,7 +29,7 @@ pub trait RuleRoom {
         ensures kept { (question : Question) → asked self.old question → asked self.new question };
 }
 
-/// How many states a rule may have, if it says so and the packet may make one.
+/// The limit of a rule's states, if it has one and the packet may make a state.
 #[inline]
 fn limit_for(rule: &FlatRule, packet: &Packet) -> Option<u32>
     ensures { result ≡ spec.limit_for rule.now packet.now }
@@ -42,7 +42,8 @@ fn limit_for(rule: &FlatRule, packet: &Packet) -> Option<u32>
     }
 }
 
-/// Whether the rule at a place matches: all that it writes holds, which is asked only where it isn't known, and it has room.
+/// Whether the rule at a place matches: all that it writes holds, which is tested only if it isn't known yet, and it
+/// has room.
 #[inline]
 pub(crate) fn is_match<R: RuleRoom>(
     flat: &Ruleset,

@@ -1,4 +1,4 @@
-//! How the first translation rule of a kind is searched that holds for a packet.
+//! The search for the first translation rule of a kind that holds for a packet.
 ghost use Rattle.std.specs.Prelude.{◌≡◌, ◌<◌, ◌≤◌, ◌++◌, ℕ, List, suc, length, map, min, take, IfNone, IfOk, IfSome, OnOk};
 ghost use Rattle.std.specs.List.{find, slice_get, slice_index_or};
 ghost use Rattle.std.specs.Option.{option_copied};
@@ -17,7 +17,7 @@ use pfr_net::IfName;
 use pfr_ruleset::{Aids, FlatTranslation, Ruleset, TranslationAids, TranslationRules};
 use std::alloc::AllocError;
 
-/// What the rule at a place answers: None where it holds, else the next rule that may. Those between don't hold either.
+/// What the rule at a place answers: None if it holds, else the place of the next rule that may. No rule between holds.
 fn behind_failing<T>(
     rules: &[FlatTranslation<T>],
     aids: &Aids,
@@ -39,8 +39,8 @@ fn behind_failing<T>(
     }
 }
 
-/// The place of the first rule that holds for a packet, by what is kept beside the rules; the number of rules if none does. Each
-/// rule that is asked is noted.
+/// The place of the first rule that holds for a packet, or the number of rules if none does. The search uses what is
+/// kept beside the rules, and counts each rule that is asked.
 fn first_by<T>(
     rules: &[FlatTranslation<T>],
     aids: &Aids,
@@ -72,7 +72,7 @@ fn first_by<T>(
     end
 }
 
-/// The same where nothing is kept beside the rules: each is asked.
+/// The same if nothing is kept beside the rules: each rule is asked.
 fn first_of_each<T>(
     rules: &[FlatTranslation<T>],
     flat: &Ruleset,
@@ -96,7 +96,8 @@ fn first_of_each<T>(
     place
 }
 
-/// The place of the first rule that holds for a packet; the number of rules if none does. Each rule that is asked is noted.
+/// The place of the first rule that holds for a packet, or the number of rules if none does. Each rule that is asked is
+/// counted.
 fn first_place<T>(
     rules: &[FlatTranslation<T>],
     aids: Option<&TranslationAids>,
@@ -117,7 +118,7 @@ fn first_place<T>(
     }
 }
 
-/// How far the numbers of rules follow on one another from a place on, at most up to `upto`.
+/// The place up to which the numbers of rules follow on one another from a place on, at most `upto`.
 fn run_end(aids: Option<&TranslationAids>, from: usize, upto: usize) -> usize
     requires { from < upto }
     ensures within { result ≤ upto }
@@ -139,7 +140,8 @@ fn number_at<T>(rules: &[FlatTranslation<T>], place: usize) -> usize
     rules[place].number
 }
 
-/// Puts the numbers of the rules before a place behind the visited ones. Those that follow on one another are one run.
+/// Puts the numbers of the rules before place `upto` behind the visited ones. Numbers that follow on one another are
+/// one run.
 fn visit<T>(
     rules: &[FlatTranslation<T>],
     aids: Option<&TranslationAids>,
@@ -169,7 +171,8 @@ fn rule_at<T>(rules: &[FlatTranslation<T>], place: usize) -> Option<&FlatTransla
     rules.get(place)
 }
 
-/// How many of `count` rules are asked where the one at a place is the first that holds; all where that is their number.
+/// The number of rules, of `count`, that are asked if the first one that holds is at `place`; all of them if `place` is
+/// `count`.
 #[inline]
 fn asked_up_to(place: usize, count: usize) -> usize
     requires { place ≤ count }
@@ -178,8 +181,8 @@ fn asked_up_to(place: usize, count: usize) -> usize
     if place < count { place + 1 } else { count }
 }
 
-/// The first of these rules that holds for a packet. The numbers of those up to it, or of all where none holds, are put behind the
-/// visited ones.
+/// The first of these rules that holds for a packet. The numbers of the rules up to it, or of all rules if none holds,
+/// are put behind the visited ones.
 fn first_in<'a, T>(
     rules: &'a [FlatTranslation<T>],
     aids: Option<&TranslationAids>,
@@ -198,7 +201,7 @@ fn first_in<'a, T>(
     Ok(rule_at(rules, place))
 }
 
-/// The same of all rules of a kind.
+/// The same for all rules of a kind.
 pub(crate) fn first_of<'a, T>(
     rules: &'a TranslationRules<T>,
     flat: &Ruleset,

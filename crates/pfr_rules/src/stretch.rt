@@ -15,13 +15,13 @@ use pfr_headers::Packet;
 use pfr_net::{Direction, IfName};
 use pfr_ruleset::{Aids, FilterAids, FlatRule, Ruleset};
 
-/// Where a stretch of rules that don't hold ends.
+/// The end of a stretch of rules that don't hold.
 pub(crate) struct StretchEnd {
     /// The place behind the stretch.
     pub(crate) to: usize,
     /// Whether the rule there has been asked, and holds.
     pub(crate) hits: bool,
-    /// How many rules have been asked.
+    /// The number of rules that have been asked.
     pub(crate) asked: u64,
 }
 
@@ -49,7 +49,7 @@ pub(crate) fn follow(flat: &Ruleset, aids: Option<&FilterAids>, packet: &Packet)
     }
 }
 
-/// What the rule at a place answers: None where it holds, else the next rule that may. Those between don't hold either.
+/// What the rule at a place answers: None if it holds, else the place of the next rule that may. No rule between holds.
 fn behind_failing(
     flat: &Ruleset,
     aids: &Aids,
@@ -125,7 +125,7 @@ fn stretch_by(
     }
 }
 
-/// How far a walk may jump from a place and not look at its last hit, at most to `limit`.
+/// How far a walk may jump from a place without a look at its last hit, at most to `limit`.
 #[inline]
 fn open_end(aids: &FilterAids, openings: &[usize], place: usize, limit: usize) -> usize
     requires ends { spec.AreEndsFor openings.now aids.now }
@@ -141,7 +141,7 @@ fn open_end(aids: &FilterAids, openings: &[usize], place: usize, limit: usize) -
     aids.open_end(place).min(limit)
 }
 
-/// The end of a stretch from a place on, each of whose rules has been asked.
+/// The end of a stretch from a place on; each of its rules has been asked.
 fn end_of_each(place: usize, to: usize, hits: bool) -> StretchEnd
     ensures to { result.to ≡ to }
     ensures hits { result.hits ≡ hits }
@@ -153,7 +153,7 @@ fn end_of_each(place: usize, to: usize, hits: bool) -> StretchEnd
     }
 }
 
-/// How far a walk may jump from `place`, at most to `limit`, where nothing is kept beside the rules: each is asked.
+/// How far a walk may jump from `place`, at most to `limit`, if nothing is kept beside the rules: each rule is asked.
 fn stretch_of_each(
     flat: &Ruleset,
     name: &IfName,
@@ -185,8 +185,8 @@ fn stretch_of_each(
     end_of_each(place, to, false)
 }
 
-/// How far a walk may jump from `place`, at most to `limit`: none of the rules that it jumps over holds, and at none of them an
-/// earlier hit ends the walk. The packet goes on along its chains.
+/// How far a walk may jump from `place`, at most to `limit`: no rule that it jumps over holds, and at none of them an
+/// earlier hit ends the walk. The packet moves along its chains.
 pub(crate) fn stretch(
     flat: &Ruleset,
     aids: Option<&FilterAids>,

@@ -19,7 +19,7 @@ trait TranslationRule {
     /// How it is asked.
     ghost kind: { Kind Self };
 
-    /// What it makes of a packet that it holds for. None behind `no`.
+    /// What it makes of a packet that it holds for; None if it is written behind `no`.
     fn hit(&self, packet: &Packet, direction: Direction) -> Option<Hit>
         ensures { result ≡ kind.hit packet.now direction self.now };
 }
@@ -58,7 +58,7 @@ impl TranslationRule for FlatTranslation<RdrAddress> {
     }
 }
 
-/// The one address of these, else another.
+/// The address of `hosts` if only one is written, else `other`.
 #[inline]
 fn address_or(other: Ipv4Address, hosts: HostSet) -> Ipv4Address
     ensures { result ≡ spec.address_or other hosts }
@@ -88,7 +88,8 @@ impl TranslationRule for FlatTranslation<Ipv4Address> {
     }
 }
 
-/// The first `binat` rule that holds for a packet. The numbers of those that are asked are put behind the visited ones.
+/// The first `binat` rule that holds for a packet. The numbers of the rules that are asked are put behind the visited
+/// ones.
 fn first_binat<'a>(
     rules: &'a [FlatTranslation<Ipv4Address>],
     flat: &Ruleset,
@@ -140,7 +141,8 @@ fn binat_of(
     Ok(hit_by_first(found, packet, direction))
 }
 
-/// What the kind that is asked behind `binat` makes of a packet: `rdr` for one that comes in, `nat` for one that goes out.
+/// What the kind that is asked after `binat` makes of a packet: `rdr` for a packet that comes in, `nat` for one that
+/// goes out.
 fn other_hit(
     flat: &Ruleset,
     name: &IfName,
@@ -163,9 +165,10 @@ fn other_hit(
     }
 }
 
-/// What the translation rules make of a packet on the interface of this name, and which of them are visited, in the order in
-/// which they are asked. Of a kind the first rule that holds decides: it translates the packet, or behind `no` leaves it to the
-/// next kind. `binat` comes first, then `rdr` for a packet that comes in and `nat` for one that goes out.
+/// What the translation rules make of a packet on the interface of this name, and which of them are visited, in the
+/// order in which they are asked. In each kind the first rule that holds decides: it translates the packet, or with
+/// `no` leaves it to the next kind. `binat` comes first, then `rdr` for a packet that comes in and `nat` for one that
+/// goes out.
 #[tactic(auto, unfolding(crate::specs::Translating::hit_of, crate::specs::Translating::translations_visited))]
 pub fn translate(
     alloc: Global,

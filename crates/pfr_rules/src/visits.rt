@@ -17,14 +17,14 @@ struct Run {
     ghost fits: { first + count ≤ 18446744073709551616 },
 }
 
-/// The numbers of the rules that a walk visits, in the order in which it does. Filter rules are visited in rising order, and so
-/// are the translation rules of a kind. Contracts see the list. Where no number is passed over they are one run, and take no
-/// memory.
+/// The numbers of the rules that a walk visits, in the order in which it visits them. Filter rules are visited in
+/// rising order, and so are the translation rules of a kind. Contracts see the list. If no number is passed over, the
+/// numbers are one run, and take no memory.
 #[derive(Drop)]
 pub struct Visits {
     before: Vec<Run>,
     last: Run,
-    /// How many of the rules the walk has asked. The others are visited, and don't hold.
+    /// The number of rules that the walk has asked. The others are visited, and don't hold.
     asked: u64,
 }
 
@@ -98,7 +98,7 @@ impl Visits {
         self.asked = self.asked.saturating_add(count);
     }
 
-    /// Puts a number behind the others. Where memory is refused they are as before.
+    /// Puts a number behind the others. If memory is refused, the numbers stay as they were.
     pub fn push(&mut self, number: usize) -> Result<(), AllocError>
         ensures pushed { OnOk result (self.new ≡ self.old ++ number ∷ []) }
         ensures kept { OnErr result (self.new ≡ self.old) }
@@ -117,8 +117,8 @@ impl Visits {
         Ok(())
     }
 
-    /// Puts `count` numbers behind the others: `first` and those that follow it. `asked` of the rules have been asked. Where memory
-    /// is refused the numbers are as before.
+    /// Puts `count` numbers behind the others: `first` and those that follow it. Of their rules `asked` have been
+    /// asked. If memory is refused, the numbers stay as they were.
     pub fn push_run(&mut self, first: usize, count: usize, asked: u64) -> Result<(), AllocError>
         requires fits { first + count ≤ 18446744073709551615 }
         ensures pushed { OnOk result (self.new ≡ self.old ++ numbers_from first count) }
@@ -161,7 +161,7 @@ impl Visits {
         self.last.count_in(tallies);
     }
 
-    /// How many rules have been asked, at most 2^64 - 1. Nothing depends on it: it tells what a walk costs.
+    /// The number of rules that have been asked, at most 2^64 - 1. Nothing depends on it: it tells what a walk costs.
     #[inline]
     pub fn asked(&self) -> u64 {
         self.asked

@@ -34,7 +34,8 @@ fn decision_by(rules: &[FlatRule], decided: Option<usize>) -> Decision
     }
 }
 
-/// Whether a walk ends at a place, by the least place from which on a hit ends it there, and the last hit.
+/// Whether a walk ends at a place, by its opening and the last hit. The opening is the least place from which on a hit
+/// ends the walk there.
 #[inline]
 fn stops(opening: usize, decided: Option<usize>) -> bool
     ensures { result ≡ spec.stops_by opening decided }
@@ -89,7 +90,7 @@ fn begun(anchors: &[FlatAnchor], next: usize, place: usize) -> Option<&FlatAncho
     }
 }
 
-/// Where the next anchor begins, or the end.
+/// The place at which the next anchor begins, or the end.
 #[inline]
 fn next_first(anchors: &[FlatAnchor], next: usize, end: usize) -> usize
     ensures { result ≡ next_first_of (slice_get anchors.now next) end }
@@ -115,8 +116,8 @@ struct Walked {
     visits: Visits,
 }
 
-/// Walks over the rules. An anchor that doesn't hold is passed over with all that stands in it. A stretch of rules that don't hold
-/// is visited as one run. A rule of which all holds that it writes is asked whether it has room.
+/// Walks over the rules. An anchor that doesn't hold is passed over with all that stands in it. A stretch of rules that
+/// don't hold is visited as one run. If all that a rule writes holds, the rule is asked whether it has room.
 fn walk<R: RuleRoom>(
     alloc: Global,
     flat: &Ruleset,
@@ -176,9 +177,9 @@ fn walk<R: RuleRoom>(
     Ok(Walked { decided, visits })
 }
 
-/// Which rule decides on a packet on the interface of this name, and which rules are visited: the last that hits, of those up to
-/// the first stop. Where none hits the packet passes. A rule with `max` hits only where `rooms` answers that it has room; of which
-/// rules that was asked is said too.
+/// Which rule decides on a packet on the interface of this name, and which rules are visited. Of the rules up to the
+/// first stop the last one that hits decides; if none hits, the packet passes. A rule with `max` hits only if `rooms`
+/// answers that it has room. The contract also says which rules were asked for their room.
 pub fn filter<R: RuleRoom>(
     alloc: Global,
     flat: &Ruleset,

@@ -15,7 +15,7 @@ use Rattle.pfr_ruleset.proofs.KeyLemmas.{key_order, key_exact}
 use Rattle.pfr_ruleset.proofs.Membership.{from_map, to_map}
 use Rattle.pfr_ruleset.proofs.PrefixLemmas.{prefix-prefix}
 
--- no network of so many bits or more holds the address
+-- no network of `low` bits or more holds the address
 abbrev pub NoneFrom : BTreeMap (ℕ × ℕ) Bool → ℕ → ℕ → Type 0
 NoneFrom m address low = (bits : ℕ) → low ≤ bits → bits ≤ 32 → tree.get key_cmp m (bits, prefix bits address) ≡ None
 

@@ -7,7 +7,7 @@ use Rattle.pfr_ruleset.specs.declared.criterion.Asked.{Asked}
 use Rattle.pfr_ruleset.specs.declared.flat.FlatRule.{FlatRule}
 use Rattle.pfr_ruleset.specs.declared.flat.FlatTranslation.{FlatTranslation}
 
--- what a filter rule asks for at the criteria that rules are compared by
+-- what a filter rule asks for at the criteria by which rules are compared
 abbrev pub asked_by : FlatRule → Asked
 asked_by rule = record { direction = rule.direction; packet = rule.packet }
 

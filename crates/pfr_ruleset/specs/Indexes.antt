@@ -1,4 +1,4 @@
--- What is kept beside rules, so that a walk over them passes over those that don't hold.
+-- What is kept beside rules, so that a walk skips those that don't hold.
 use Rattle.std.specs.Prelude.{◌≡◌, ◌<◌, ◌≤◌, ℕ, Bool, false, List, length, map, Option}
 use Rattle.std.specs.List.{slice_index_or}
 use Rattle.std.specs.Option.{ForSome}

@@ -38,6 +38,6 @@ abbrev pub is_other : Option Bool → Bool → Bool
 is_other None is_negated = false
 is_other (Some sign) is_negated = not (beq sign is_negated)
 
--- a number of bits that isn't noted is that of no key
+-- no key has a number of bits that isn't noted
 abbrev pub AreKnown : BTreeMap (ℕ × ℕ) Bool → List Bool → Type 0
 AreKnown map lengths = (bits base : ℕ) → bits ≤ 32 → slice_index_or lengths bits false ≡ false → tree.get key_cmp map (bits, base) ≡ None

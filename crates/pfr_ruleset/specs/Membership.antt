@@ -13,7 +13,7 @@ IsInTable None address = ⊥
 IsInTable (Some entries) address = IsMember entries address
 
 -- any address; those that the network holds; those from the first to the last; those
--- of the table at this place, where a place outside the tables holds none
+-- of the table at this place; a place outside the tables holds none
 abbrev pub IsAmong : List (List Entry) → HostSet → ℕ → Type 0
 IsAmong tables set.Any address = ⊤
 IsAmong tables (set.Network network) address = IsTrue (holds network (record { 0 = address }))

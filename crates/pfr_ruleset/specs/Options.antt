@@ -5,6 +5,6 @@ use Rattle.pfr_ruleset.specs.declared.options.Options as O
 use Rattle.pfr_ruleset.specs.declared.policy.BlockPolicy.TheVariants as b
 use Rattle.pfr_ruleset.specs.declared.policy.StatePolicy.TheVariants as policy
 
--- what holds where nothing is set
+-- what holds if nothing is set
 abbrev pub default_options : O.Options
 default_options = record { timeouts = default_timeouts; state_limit = 100000; block_policy = b.Drop; state_policy = policy.Floating; host_id = 1; skipped = [] }

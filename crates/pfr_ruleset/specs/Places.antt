@@ -24,7 +24,7 @@ AreWithin size anchors = All (IsPlaced size) anchors × AreNested anchors
 abbrev pub ArePlaced : List FlatRule → List FlatAnchor → Type 0
 ArePlaced rules anchors = AreWithin (length rules) anchors
 
--- an anchor so many rules further on
+-- an anchor `places` rules further on
 abbrev pub moved : ℕ → FlatAnchor → FlatAnchor
 moved places anchor = record anchor { first = places + anchor.first; last = places + anchor.last }
 

@@ -42,7 +42,7 @@ pinned_network criterion = if criterion.is_negated then None else network_in cri
 
 -- ---- shapes
 
--- whether a value is pinned, where a shape pins it
+-- whether a value is pinned, if a shape pins it
 abbrev pub is_pinned : Bool → Option ℕ → Bool
 is_pinned false value = true
 is_pinned true None = false
@@ -93,12 +93,12 @@ pins_of shape asked = record {
 abbrev pub no_shape : Shape
 no_shape = record { protocol = false; icmp = false; source = None; source_port = false; destination = None; destination_port = false }
 
--- the place of the first shape that a rule covers; that behind the last one where it covers none
+-- the place of the first shape that a rule covers, or the number of shapes if it covers none
 unfoldable pub shape_place : List Shape → PacketMatch → ℕ
 shape_place [] asked = 0
 shape_place (shape ∷ shapes) asked = if covers shape asked then 0 else suc (shape_place shapes asked)
 
--- the shape at a place; behind the last one that which pins nothing
+-- the shape at a place; behind the last one the shape that pins nothing
 abbrev pub shape_at : List Shape → ℕ → Shape
 shape_at shapes place = slice_index_or shapes place no_shape
 
@@ -107,7 +107,7 @@ shape_at shapes place = slice_index_or shapes place no_shape
 abbrev pub mixed : ℕ → ℕ → ℕ
 mixed sum value = (sum + value) % 2 ^ 64 * 11400714819323198485 % 2 ^ 64
 
--- a number of 32 bits as one below a bound
+-- a number of 32 bits scaled to one below `size`
 abbrev pub scaled : ℕ → ℕ → ℕ
 scaled number size = number * size / 2 ^ 32
 

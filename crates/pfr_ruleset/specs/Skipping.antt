@@ -26,7 +26,7 @@ GoesOn criterion here (Some next) = SameAt criterion here next
 abbrev pub HasSkips : List Asked → ℕ → RuleSkips → Type 0
 HasSkips asked place skips = (criterion : Criterion) → IsSkip criterion asked place (skip_at criterion skips)
 
--- those of the rules from a place on
+-- the skips of the rules from a place on
 pub record HaveSkipsFrom (from : ℕ) (asked : List Asked) (skips : List RuleSkips) : Type 0 where
   pub size : length skips ≡ length asked
   pub each : (place : ℕ) (found : RuleSkips) → from ≤ place → slice_get skips place ≡ Some found → HasSkips asked place found

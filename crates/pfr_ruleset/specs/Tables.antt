@@ -18,7 +18,7 @@ bits_of e = min e.network.bits 32
 abbrev pub holds : ℕ → Entry → Bool
 holds address e = networks.holds e.network (record { 0 = address })
 
--- of the entries that hold the address the longest decides by its sign; none says no
+-- of the entries that hold the address the longest decides by its sign; if none holds it, the table doesn't
 abbrev pub IsMember : List Entry → ℕ → Type 0
 IsMember entries address = (e : Entry) × Contains entries e × (holds address e ≡ true) × (e.is_negated ≡ false) × All (λ f. holds address f ≡ true → bits_of f ≤ bits_of e) entries
 
@@ -41,12 +41,12 @@ abbrev pub with_entry : List Entry → Entry → List Entry
 with_entry [] e = kept e ∷ []
 with_entry (f ∷ table) e = match_ordering (order (kept e) f) (kept e ∷ f ∷ table) (kept e ∷ table) (f ∷ with_entry table e)
 
--- a table with more entries, in the order in which they are written: none where an entry clashes
+-- a table with more entries, in the order in which they are written: none if an entry clashes
 abbrev pub table_from : List Entry → List Entry → Option (List Entry)
 table_from table [] = Some table
 table_from table (e ∷ entries) = if clashes table e then None else table_from (with_entry table e) entries
 
--- the table of entries in the order in which they are written: none where two of them clash
+-- the table of entries in the order in which they are written: none if two of them clash
 unfoldable pub table_of : List Entry → Option (List Entry)
 table_of entries = table_from [] entries
 

@@ -10,7 +10,7 @@ use Rattle.pfr_ruleset.specs.Indexes.{AreAids}
 abbrev pub FollowsBy : Bool → ℕ → ℕ → Type 0
 FollowsBy is number before = is ≡ true → number ≡ suc before
 
--- where numbers don't follow on those before them
+-- each number follows on the one before it, except at the places that `breaks` marks
 pub record AreNumberBreaks (numbers : List ℕ) (breaks : List Bool) : Type 0 where
   pub size : length breaks ≡ length numbers
   pub follows : (place : ℕ) → suc place < length numbers → slice_index_or breaks (suc place) false ≡ false → slice_index_or numbers (suc place) 0 ≡ suc (slice_index_or numbers place 0)

@@ -1,4 +1,4 @@
-//! What is kept beside rules, so that a walk over them passes over those that don't hold.
+//! What is kept beside rules, so that a walk skips those that don't hold.
 ghost use Rattle.std.specs.Prelude.{◌≡◌, ◌<◌, ◌≤◌, length, IfOk};
 ghost use Rattle.std.specs.List.{slice_index_or};
 ghost use Rattle.pfr_ruleset.specs.Indexes as spec;
@@ -9,8 +9,8 @@ use crate::skips::Skips;
 use pfr_chains::run_ends;
 use std::alloc::{AllocError, Global};
 
-/// Fewer rules than this are asked one after the other in less time than an index takes to find one of them (bench/README.md has
-/// the figures).
+/// Fewer rules than this are tested one after the other in less time than an index takes to find one of them
+/// (bench/README.md has the figures).
 const FEWEST_INDEXED: usize = 6;
 
 /// The most rules beside which anything is kept, as places have 32 bits there.
@@ -23,7 +23,7 @@ pub struct Aids {
     pub index: Option<Index>,
 }
 
-/// The same for filter rules, and how far a walk may go without a look at its last hit.
+/// The skips and the index of filter rules, and how far a walk may go without a look at its last hit.
 #[derive(Drop)]
 pub struct FilterAids {
     pub rules: Aids,
@@ -44,7 +44,7 @@ fn index_of(alloc: Global, asked: &[Asked]) -> Result<Option<Index>, AllocError>
 }
 
 impl Aids {
-    /// What is kept beside rules, each of which asks for this.
+    /// What is kept beside the rules that ask for `asked`.
     pub(crate) fn over(alloc: Global, asked: &[Asked]) -> Result<Aids, AllocError>
         requires few { length asked.now ≤ 4294967295 }
         ensures { IfOk result (λ aids. spec.AreAids asked.now aids) }
@@ -55,7 +55,7 @@ impl Aids {
     }
 }
 
-/// Where a hit before a place may end a walk there.
+/// For each place whether a hit before it may end a walk there.
 fn closings(alloc: Global, openings: &[usize]) -> Result<Vec<bool>, AllocError>
     ensures { IfOk result (λ begins. spec.AreClosings openings.now begins.items) }
 {
@@ -78,7 +78,7 @@ fn open_ends_of(alloc: Global, openings: &[usize]) -> Result<Vec<u32>, AllocErro
 }
 
 impl FilterAids {
-    /// What is kept beside filter rules, each of which asks for this, with the openings of their places.
+    /// What is kept beside the filter rules that ask for `asked`, with the openings of their places.
     pub(crate) fn over(
         alloc: Global,
         asked: &[Asked],
@@ -93,7 +93,7 @@ impl FilterAids {
         Ok(FilterAids { rules, open_ends })
     }
 
-    /// How far behind a place no hit before it ends a walk: up to the next place at which one may, or the number of rules.
+    /// The next place behind `place` at which a hit before it may end a walk, or the number of rules.
     #[inline]
     pub fn open_end(&self, place: usize) -> usize
         requires { place < length self.now.open_ends.items }

@@ -8,14 +8,14 @@ use crate::interface::InterfaceCriterion;
 use crate::port::PortMatch;
 use pfr_net::{Direction, Protocol};
 
-/// What a rule asks of a packet at the criteria by which rules are compared.
+/// What a rule asks for at the criteria by which rules are compared.
 #[derive(Clone, Copy)]
 pub struct Asked {
     pub direction: Option<Direction>,
     pub packet: PacketMatch,
 }
 
-/// A criterion by which a rule that fails says that the next ones fail too, as far as they write the same there.
+/// A criterion of a rule. A packet that fails a rule there also fails the next ones, as long as they write the same.
 #[derive(Clone, Copy)]
 pub enum Criterion {
     Interface,

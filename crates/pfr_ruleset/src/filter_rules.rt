@@ -21,15 +21,15 @@ pub struct RuleLists {
     pub anchors: Items<FlatAnchor>,
 }
 
-/// The filter rules of a ruleset and the anchors round them. Contracts see the two lists; each anchor stands round rules
-/// that are there, and a later one in an earlier one or behind it.
+/// The filter rules of a ruleset and the anchors round them. Contracts see the two lists. Each anchor stands round
+/// rules that are there; a later anchor stands in an earlier one or behind it.
 #[derive(Drop)]
 pub struct FilterRules {
     rules: Items<FlatRule>,
     anchors: Items<FlatAnchor>,
-    /// For each place the least one from which on a hit ends a walk there.
+    /// The opening of each place: the least place from which on a hit ends a walk there.
     openings: Vec<usize>,
-    /// What a walk over the rules passes over by, once it is made.
+    /// What lets a walk skip rules, once it is made.
     aids: Option<FilterAids>,
 }
 
@@ -45,7 +45,8 @@ impl Model for FilterRules {
     ghost invariant = { λ f. ArePlaced f.rules f.anchors × HasOpenings f.rules f.anchors f.openings.items × HaveFilterAids f.rules f.openings.items f.aids };
 }
 
-/// Puts anchors behind others, each `place` rules further on than it says. `size` is the number of rules that they stand round.
+/// Puts anchors behind others, each `place` rules further on than it says. `size` is the number of rules that they
+/// stand round.
 #[tactic(auto, unfolding(crate::specs::Places::AreWithin))]
 pub fn put_anchors(
     out: &mut Items<FlatAnchor>,
@@ -74,7 +75,7 @@ fn own_opening(rule: &FlatRule, place: usize) -> usize
     if rule.is_quick { place } else { usize::MAX }
 }
 
-/// Puts the openings of rules by themselves behind those of the others.
+/// Puts the openings of rules by themselves behind `openings`.
 fn put_openings(openings: &mut Vec<usize>, rules: &[FlatRule]) -> Result<(), AllocError>
     ensures made { OnOk result (openings.new.items ≡ openings.old.items ++ spec.own_openings (length openings.old.items) rules.now) }
     ensures size { OnOk result (length openings.new.items ≡ length openings.old.items + length rules.now) }
@@ -102,7 +103,7 @@ fn open_anchors(openings: &mut Vec<usize>, place: usize, size: usize, anchors: &
     }
 }
 
-/// What each of filter rules asks for.
+/// What each filter rule asks for.
 fn asked_of(alloc: Global, rules: &[FlatRule]) -> Result<Vec<Asked>, AllocError>
     ensures { IfOk result (λ asked. asked.items ≡ map asked_by rules.now) }
 {
@@ -164,7 +165,7 @@ impl FilterRules {
         })
     }
 
-    /// Makes what a walk over the rules passes over by. The rules stay as they are.
+    /// Makes what lets a walk skip rules. The rules stay as they are.
     pub fn index(&mut self, alloc: Global) -> Result<(), AllocError>
         ensures { self.new ≡ self.old }
     {
@@ -191,7 +192,7 @@ impl FilterRules {
         self.anchors.as_slice()
     }
 
-    /// For each place the least one from which on a hit ends a walk there.
+    /// The opening of each place: the least place from which on a hit ends a walk there.
     #[inline]
     pub fn openings(&self) -> &[usize]
         ensures { spec.HasOpenings self.now.rules self.now.anchors result.now }

@@ -7,7 +7,7 @@ use crate::policy::StatePolicy;
 use crate::port::PortMatch;
 use pfr_net::{Direction, Ipv4Address, Protocol};
 
-/// What a flat rule or anchor asks of a packet, but for its direction. None asks for nothing.
+/// What a packet must meet for a flat rule or anchor, but for its direction. `None` asks for nothing.
 #[derive(Clone, Copy, PartialEq, Eq)]
 pub struct PacketMatch {
     pub interface: Option<InterfaceCriterion>,
@@ -45,13 +45,13 @@ pub enum FilterAction {
     Return,
 }
 
-/// The flags that a rule asks of TCP packets.
+/// The flags that a rule asks for in TCP packets.
 #[derive(Clone, Copy, PartialEq, Eq)]
 pub enum FlagsCriterion {
     Any,
-    /// Of those of the mask just these.
+    /// Of the flags of `mask` exactly those of `set`.
     Written { set: FlagSet, mask: FlagSet },
-    /// `S/SA`, which isn't asked of fragments.
+    /// `S/SA`, which isn't tested on fragments.
     Default,
 }
 
@@ -65,13 +65,13 @@ pub struct StateRule {
     pub most: Option<u32>,
 }
 
-/// A filter rule. Its number is its place among them.
+/// A filter rule. Its number is its place among the filter rules.
 #[derive(Clone, Copy, PartialEq, Eq)]
 pub struct FlatRule {
     pub action: FilterAction,
     pub direction: Option<Direction>,
     pub is_quick: bool,
-    /// The place of its label among those of the ruleset, if it has one.
+    /// The place of its label among the ruleset's labels, if it has one.
     pub label: Option<u16>,
     pub packet: PacketMatch,
     pub flags: FlagsCriterion,
@@ -82,8 +82,8 @@ pub struct FlatRule {
     pub line: usize,
 }
 
-/// An anchor round the filter rules from the place `first` to the place `last`. Those round one rule come from the
-/// outermost on.
+/// An anchor round the filter rules from the place `first` to the place `last`. Of the anchors round one rule the
+/// outermost comes first.
 #[derive(Clone, Copy, PartialEq, Eq)]
 pub struct FlatAnchor {
     pub direction: Option<Direction>,

@@ -1,7 +1,7 @@
 //! Addresses that a rule asks for.
 use pfr_net::{Ipv4Address, Net};
 
-/// Addresses that a packet's is held against.
+/// Addresses that a packet's address is compared with.
 #[derive(Clone, Copy, PartialEq, Eq)]
 pub enum HostSet {
     Any,
@@ -13,7 +13,7 @@ pub enum HostSet {
     Table(usize),
 }
 
-/// Addresses that a packet's has to be among, or with `!` must not be among.
+/// Addresses that a packet's address must be among, or with `!` must not be among.
 #[derive(Clone, Copy, PartialEq, Eq)]
 pub struct HostCriterion {
     pub is_negated: bool,

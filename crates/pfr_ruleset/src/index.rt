@@ -11,17 +11,17 @@ use pfr_items::Items;
 use std::alloc::{AllocError, Global};
 use std::collections::BTreeMap;
 
-/// The most shapes of an index. Rules of others count as of one that pins less, or as of none.
+/// The most shapes of an index. A rule of another shape counts as of one that pins less, or as of none.
 pub const MOST_SHAPES: usize = 15;
 
-/// A shape of fewer rules is not worth the look-up that it costs each packet.
+/// A shape with fewer rules is not worth the look-up that it costs each packet.
 const FEWEST_RULES: usize = 4;
 
-/// For each shape of rules the places of the rules that pin the same. A packet is only asked rules on one chain of each
-/// shape.
+/// For each shape of rules the places of the rules that pin the same. A packet is only tested against the rules on one
+/// chain of each shape.
 #[derive(Drop)]
 pub struct Index {
-    /// Those that pin more bits come first, so that a rule counts as of the most exact one.
+    /// Shapes that pin more bits come first, so that a rule counts as of the most exact one.
     shapes: Items<Shape>,
     chains: Chains,
     /// The keys are below it.
@@ -61,7 +61,7 @@ fn common_shapes(alloc: Global, asked: &[Asked]) -> Result<Items<Shape>, AllocEr
     Ok(Items::of(shapes))
 }
 
-/// The bound of the keys of `count` rules: twice as many, so that few rules that pin something else have the same.
+/// The bound of the keys of `count` rules: twice `count`, so that few rules that pin different values share a key.
 fn size_for(count: usize) -> u32
     ensures { 0 < result }
 {
@@ -87,7 +87,7 @@ fn keys_of(
 }
 
 impl Index {
-    /// The index of rules, each of which asks for this.
+    /// The index of the rules that ask for `asked`.
     pub(crate) fn over(alloc: Global, asked: &[Asked]) -> Result<Index, AllocError>
         requires few { length asked.now ≤ 4294967295 }
         ensures { IfOk result (λ index. spec.IsIndex asked.now index) }
@@ -118,7 +118,7 @@ impl Index {
         self.shapes.as_slice()
     }
 
-    /// The first rule that may pin this and count as of the shape at a place, or the number of rules.
+    /// The first rule that may pin `pins` and count as of the shape at `place`, or the number of rules.
     #[inline]
     pub fn first(&self, place: usize, pins: Pins) -> usize
         requires { 0 < self.now.size }

@@ -40,7 +40,7 @@ impl Interface {
     }
 }
 
-/// Puts an interface's address into a table of such.
+/// Puts an interface's address into a table of such addresses.
 fn add_own(table: &mut AddressTable, interface: &Interface) -> Result<(), AllocError>
     ensures { OnOk result (table.new ≡ spec.with_own table.old interface.now) }
 {

@@ -1,9 +1,9 @@
-//! A ruleset as data: flat filter rules and the anchors round them, translation rules, what they ask of a packet, tables of
+//! A ruleset as data: flat filter rules and the anchors round them, translation rules, the criteria of rules, tables of
 //! addresses, options (pf.conf(5)).
 //!
-//! A [`Ruleset`] is what the text of a ruleset means for the interfaces of a run. Each of its rules asks for one thing of a kind.
-//! In a table `{ 10.0.0.0/8, !10.1.0.0/16, 10.1.2.0/24 }` an entry is a network, maybe with a `!`; of the entries that hold
-//! an address the longest decides by its sign, and where none holds it, the table doesn't.
+//! A [`Ruleset`] is what the text of a ruleset means for the interfaces of a run. Each of its rules asks for one thing
+//! of a kind. In a table `{ 10.0.0.0/8, !10.1.0.0/16, 10.1.2.0/24 }` an entry is a network, maybe with a `!`. Of the
+//! entries that hold an address the longest decides by its sign; if none holds it, the table doesn't.
 #![tactic(auto)]
 
 pub mod aids;

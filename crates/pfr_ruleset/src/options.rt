@@ -15,14 +15,14 @@ pub struct Options {
     pub state_limit: u32,
     pub block_policy: BlockPolicy,
     pub state_policy: StatePolicy,
-    /// The number by which this firewall's states are known to others.
+    /// The number by which other firewalls know this one's states.
     pub host_id: u32,
     /// The interfaces whose packets aren't filtered, each as often as it is named.
     pub skipped: Items<IfName>,
 }
 
 impl Options {
-    /// What holds where nothing is set.
+    /// What holds if nothing is set.
     pub fn new(alloc: Global) -> Options
         ensures { result ≡ spec.default_options }
     {

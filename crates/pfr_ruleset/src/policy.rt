@@ -1,4 +1,4 @@
-//! Policies that hold where a rule says nothing.
+//! Policies that hold if a rule says nothing.
 
 /// What becomes of a blocked packet: dropped, or answered.
 #[derive(Clone, Copy, PartialEq, Eq)]

@@ -11,7 +11,7 @@ pub enum Comparison {
     GreaterOrEqual,
 }
 
-/// How a port is held against two that are written.
+/// How a port is compared with two that are written.
 #[derive(Clone, Copy, PartialEq, Eq)]
 pub enum RangeOperator {
     /// `x:y`: from the first to the second.

@@ -21,7 +21,7 @@ pub struct Ruleset {
     /// The interfaces on which packets are, by their places.
     pub interfaces: Items<Interface>,
     pub options: Options,
-    /// The table of the interfaces' own addresses, and behind it those of the text in the order in which they are defined.
+    /// The table of the interfaces' own addresses, and behind it the text's tables in the order of their definitions.
     pub tables: Items<AddressTable>,
     /// The filter rules, of which each has its place as its number, and the anchors round them.
     pub filter: FilterRules,
@@ -58,7 +58,7 @@ impl Ruleset {
         }
     }
 
-    /// Makes what walks over the rules pass over by. The ruleset says what it said.
+    /// Makes what lets walks skip rules. The ruleset says what it said.
     pub fn index(&mut self, alloc: Global) -> Result<(), AllocError>
         ensures { self.new ≡ self.old }
     {

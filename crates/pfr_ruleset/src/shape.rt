@@ -154,7 +154,7 @@ fn mixed(sum: u64, value: u64) -> u64
     sum.wrapping_add(value).wrapping_mul(11400714819323198485)
 }
 
-/// A number of 32 bits as one below `size`: as far from 0 as the number is, measured by its greatest value.
+/// A number of 32 bits scaled to one below `size`: `number * size / 2^32`.
 #[inline]
 fn scaled(number: u32, size: u32) -> u32
     requires { 0 < size }
@@ -230,7 +230,7 @@ impl Shape {
         protocol + icmp + source_port + destination_port + source + destination
     }
 
-    /// All that a rule pins: the shape that pins most of those which the rule covers.
+    /// The shape that pins all that a rule pins.
     pub(crate) fn of(asked: &PacketMatch) -> Shape {
         Shape {
             protocol: asked.protocol.is_some(),
@@ -243,7 +243,7 @@ impl Shape {
     }
 }
 
-/// The place of the first shape that a rule covers; that behind the last one if it covers none.
+/// The place of the first shape that a rule covers, or the number of shapes if it covers none.
 #[tactic(auto, unfolding(crate::specs::Shapes::shape_place))]
 pub(crate) fn shape_place(shapes: &[Shape], asked: &PacketMatch) -> usize
     ensures place { result ≡ spec.shape_place shapes.now asked.now }
@@ -256,7 +256,7 @@ pub(crate) fn shape_place(shapes: &[Shape], asked: &PacketMatch) -> usize
     }
 }
 
-/// The shape at a place; behind the last one that which pins nothing.
+/// The shape at a place; behind the last one the shape that pins nothing.
 #[inline]
 pub fn shape_at(shapes: &[Shape], place: usize) -> Shape
     ensures { result ≡ spec.shape_at shapes.now place }

@@ -1,4 +1,4 @@
-//! For each rule and each criterion the next rule that may hold where this one fails.
+//! For each rule and each criterion the next rule that may hold if this one fails there.
 ghost use Rattle.std.specs.Prelude.{◌≡◌, ◌↔◌, ◌<◌, ◌≤◌, ◌+◌, List, length, true, Some, IfOk};
 ghost use Rattle.std.specs.List.{slice_get};
 ghost use Rattle.std.specs.Option.{option_copied};
@@ -9,7 +9,7 @@ ghost use Rattle.pfr_ruleset.specs.Skipping as spec;
 use crate::criterion::{Asked, Criterion, writes_same};
 use std::alloc::{AllocError, Global};
 
-/// For each criterion the next rule behind one that writes something else there, or the number of rules.
+/// For each criterion the next rule that writes something else there than this one, or the number of rules.
 #[derive(Clone, Copy)]
 pub struct RuleSkips {
     interface: u32,
@@ -74,7 +74,7 @@ fn goes_on(criterion: Criterion, here: &Asked, next: Option<&Asked>) -> bool
     }
 }
 
-/// The skip of the rule at a place: that of the next rule if it writes the same, and else the next rule.
+/// The skip of the rule at a place: the skip of the next rule if that one writes the same, and else the next rule.
 fn skip(
     asked: &[Asked],
     here: &Asked,
@@ -95,7 +95,7 @@ fn skip(
     next as u32
 }
 
-/// The skips of the rule at a place by those of the next rule.
+/// The skips of the rule at a place, by the skips of the next rule.
 fn skips_before(asked: &[Asked], here: &Asked, place: usize, behind: &RuleSkips) -> RuleSkips
     requires few { length asked.now ≤ 4294967295 }
     requires within { place < length asked.now }
@@ -130,7 +130,7 @@ fn write_skips(asked: &[Asked], skips: &mut [RuleSkips])
 }
 
 impl Skips {
-    /// The skips of rules, each of which asks for this.
+    /// The skips of the rules that ask for `asked`.
     pub(crate) fn over(alloc: Global, asked: &[Asked]) -> Result<Skips, AllocError>
         requires few { length asked.now ≤ 4294967295 }
         ensures { IfOk result (λ skips. spec.HaveSkips asked.now skips) }
@@ -140,7 +140,7 @@ impl Skips {
         Ok(Skips { rules })
     }
 
-    /// The next rule that is to be asked where the one at `place` fails at a criterion. Those between fail there too.
+    /// The next rule to test if the one at `place` fails at a criterion. The rules between fail there too.
     #[inline]
     pub fn next(&self, criterion: Criterion, place: usize) -> usize
         ensures { (asked : List TheAsked.Asked) → spec.HaveSkips asked self.now → place < length asked → criteria.IsSkip criterion asked place result }

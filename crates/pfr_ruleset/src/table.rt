@@ -12,7 +12,7 @@ use std::alloc::{AllocError, Global};
 use std::collections::BTreeMap;
 use std::marker::Model;
 
-/// An entry of a table; with `!` the table doesn't hold its addresses, but where a longer entry does.
+/// An entry of a table. With `!` the table doesn't hold its addresses, unless a longer entry does.
 #[derive(Clone, Copy, PartialEq, Eq)]
 pub struct Entry {
     pub network: Net,
@@ -76,8 +76,8 @@ impl AddressTable {
         }
     }
 
-    /// Adds an entry, unless the table has its network with the other sign; answers whether it fits. Where memory is
-    /// refused the table is as before.
+    /// Adds an entry, unless the table has its network with the other sign; answers whether it fits. If memory is
+    /// refused, the table is as before.
     pub fn add(&mut self, entry: Entry) -> Result<bool, AllocError>
         ensures fits { IfOk result (λ fits. fits ≡ not (spec.clashes self.old entry)) }
         ensures added { IfOk result (λ fits. self.new ≡ (if fits then spec.with_entry self.old entry else self.old)) }

@@ -1,4 +1,4 @@
-//! What is kept beside translation rules, so that a walk over them passes over those that don't hold.
+//! What is kept beside translation rules, so that a walk skips those that don't hold.
 ghost use Rattle.std.specs.Prelude.{◌≡◌, ◌≤◌, length, map, IfOk};
 ghost use Rattle.pfr_ruleset.specs.Criteria.{asked_by_translation};
 ghost use Rattle.pfr_ruleset.specs.Indexes.{AreAids};
@@ -14,7 +14,7 @@ use std::alloc::{AllocError, Global};
 #[derive(Drop)]
 pub struct TranslationAids {
     pub rules: Aids,
-    /// For each place the next one whose rule isn't numbered one behind the rule before it, or the number of rules.
+    /// For each place the next one whose rule isn't numbered one more than the rule before it, or the number of rules.
     number_ends: Vec<u32>,
 }
 
@@ -28,7 +28,7 @@ fn aids_of<T>(alloc: Global, rules: &[FlatTranslation<T>]) -> Result<Aids, Alloc
     Ok(aids)
 }
 
-/// What each of translation rules asks for.
+/// What each translation rule asks for.
 fn asked_of<T>(alloc: Global, rules: &[FlatTranslation<T>]) -> Result<Vec<Asked>, AllocError>
     ensures { IfOk result (λ asked. asked.items ≡ map asked_by_translation rules.now) }
 {
@@ -56,7 +56,7 @@ fn numbers_of<T>(alloc: Global, rules: &[FlatTranslation<T>]) -> Result<Vec<usiz
     Ok(numbers)
 }
 
-/// Where numbers don't follow on those before them.
+/// For each number whether it doesn't follow on the one before it.
 fn number_breaks(alloc: Global, numbers: &[usize]) -> Result<Vec<bool>, AllocError>
     ensures { IfOk result (λ breaks. spec.AreNumberBreaks numbers.now breaks.items) }
 {
@@ -91,7 +91,7 @@ impl TranslationAids {
         Ok(TranslationAids { rules, number_ends })
     }
 
-    /// The next rule behind a place that isn't numbered one behind the rule before it, or the number of rules.
+    /// The next rule behind a place that isn't numbered one more than the rule before it, or the number of rules.
     #[inline]
     pub fn number_end(&self, place: usize) -> usize
         ensures { spec.KnowsNumberEnd self.now place result }

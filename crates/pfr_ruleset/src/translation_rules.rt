@@ -14,7 +14,7 @@ use std::marker::Model;
 #[derive(Drop)]
 pub struct TranslationRules<T> {
     rules: Items<FlatTranslation<T>>,
-    /// What a walk over them passes over by, once it is made.
+    /// What lets a walk skip rules, once it is made.
     aids: Option<TranslationAids>,
 }
 
@@ -63,7 +63,7 @@ impl<T> TranslationRules<T> {
 }
 
 impl<T: Drop> TranslationRules<T> {
-    /// Puts a rule behind the others. Where memory is refused the list is as before.
+    /// Puts a rule behind the others. If memory is refused, the list is as before.
     pub fn push(&mut self, rule: FlatTranslation<T>) -> Result<(), AllocError>
         ensures pushed { OnOk result (self.new ≡ self.old ++ rule ∷ []) }
         ensures kept { OnErr result (self.new ≡ self.old) }
@@ -74,7 +74,7 @@ impl<T: Drop> TranslationRules<T> {
 }
 
 impl<T> TranslationRules<T> {
-    /// Makes what a walk over the rules passes over by. The rules stay as they are.
+    /// Makes what lets a walk skip rules. The rules stay as they are.
     pub fn index(&mut self, alloc: Global) -> Result<(), AllocError>
         ensures { self.new ≡ self.old }
     {

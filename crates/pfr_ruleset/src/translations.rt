@@ -27,7 +27,7 @@ impl Translations {
         }
     }
 
-    /// Makes what walks over the rules of `nat` and `rdr` pass over by. Those of `binat` are asked one by one.
+    /// Makes what lets walks skip rules of `nat` and `rdr`. The rules of `binat` are tested one by one.
     pub fn index(&mut self, alloc: Global) -> Result<(), AllocError>
         ensures { self.new ≡ self.old }
     {

@@ -1,4 +1,4 @@
--- What follows where one criterion holds wherever another does.
+-- What follows if one criterion holds wherever another does.
 use Rattle.std.proofs.Common.{◌≡◌, ◌≤◌, ◌+◌, ◌-◌, ◌*◌, ◌/◌, ◌^◌, ℕ, true, List, Option, None, refl, sym, ap, ◌∙◌, arith}
 use Rattle.std.proofs.Math.Nat.{div-div-eq-div-mul, mul-div_cancel}
 use Rattle.std.proofs.lemmas.Bool.{and_parts, eqb-true, eq-eqb}

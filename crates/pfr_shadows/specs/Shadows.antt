@@ -88,7 +88,7 @@ abbrev pub state_has_room : Option StateRule → Bool
 state_has_room None = true
 state_has_room (Some state) = is_none state.most
 
--- the states that a rule keeps aren't limited, so it has room wherever it holds
+-- the states that a rule keeps aren't limited, so it has room whenever it holds
 abbrev pub has_room : FlatRule → Bool
 has_room rule = state_has_room rule.state
 
@@ -103,14 +103,14 @@ is_open_to anchors first second = list_all (λ anchor. not (is_round anchor firs
 abbrev pub goes_on_to : List FlatAnchor → (first second : ℕ) → Bool
 goes_on_to anchors first second = list_all (λ anchor. not (anchor.is_quick && is_round anchor first) || is_round anchor second) anchors
 
--- Where both rules hold, the second one decides nothing: the first one comes before it and is quick, or it isn't quick itself, and the
--- first one is asked after it.
+-- If both rules hold, the second one decides nothing. Either the first one comes before it and is quick, or the second
+-- one isn't quick and the first one is tested after it.
 abbrev pub comes_to_decide : List FlatAnchor → (first second : ℕ) → (one other : FlatRule) → Bool
 comes_to_decide anchors first second one other =
     (nat_lt first second && one.is_quick) || (nat_lt second first && (not other.is_quick && goes_on_to anchors second first))
 
--- The rule at a place never decides for the one at another place: that one holds wherever it does and has room, is asked wherever it is,
--- and comes to decide.
+-- The rule at place `rule` never decides, since the one at place `by` does: that one holds wherever it does and has
+-- room, is tested wherever it is, and comes to decide.
 pub record IsShadow (r : Ruleset) (rule by : ℕ) : Type 0 where
   pub narrow : FlatRule
   pub wide : FlatRule

@@ -9,7 +9,7 @@ use pfr_criteria::transports::port_holds;
 use pfr_net::{Direction, Protocol};
 use pfr_ruleset::{Comparison, FlagsCriterion, IcmpMatch, InterfaceCriterion, PortMatch};
 
-/// Whether a direction is asked for wherever another one is.
+/// Whether the direction `wide` holds wherever `narrow` does.
 pub(crate) fn direction_covers(wide: Option<Direction>, narrow: Option<Direction>) -> bool
     ensures { result ≡ true → spec.DirectionCovers wide narrow }
 {
@@ -21,7 +21,7 @@ pub(crate) fn direction_covers(wide: Option<Direction>, narrow: Option<Direction
     }
 }
 
-/// Whether an interface is asked for wherever another one is.
+/// Whether the interface `wide` holds wherever `narrow` does.
 pub(crate) fn interface_covers(
     wide: &Option<InterfaceCriterion>,
     narrow: &Option<InterfaceCriterion>,
@@ -35,7 +35,7 @@ pub(crate) fn interface_covers(
     }
 }
 
-/// Whether a protocol is asked for wherever another one is.
+/// Whether the protocol `wide` holds wherever `narrow` does.
 pub(crate) fn protocol_covers(wide: Option<Protocol>, narrow: Option<Protocol>) -> bool
     ensures { result ≡ true → spec.ProtocolCovers wide narrow }
 {
@@ -46,7 +46,7 @@ pub(crate) fn protocol_covers(wide: Option<Protocol>, narrow: Option<Protocol>) 
     }
 }
 
-/// Whether an ICMP type is asked for wherever another one is.
+/// Whether the ICMP type `wide` holds wherever `narrow` does.
 pub(crate) fn icmp_covers(wide: Option<IcmpMatch>, narrow: Option<IcmpMatch>) -> bool
     ensures { result ≡ true → spec.IcmpCovers wide narrow }
 {
@@ -57,7 +57,7 @@ pub(crate) fn icmp_covers(wide: Option<IcmpMatch>, narrow: Option<IcmpMatch>) ->
     }
 }
 
-/// The port that is asked for, if it is a single one.
+/// The port that a criterion asks for, if it is a single one.
 fn port_in(criterion: PortMatch) -> Option<u16>
     ensures { IfSome result (λ port. criterion ≡ spec.one_port port) }
 {
@@ -67,7 +67,7 @@ fn port_in(criterion: PortMatch) -> Option<u16>
     }
 }
 
-/// Whether ports are asked for wherever others are: the same, or a single one that is among them.
+/// Whether the ports `wide` hold wherever `narrow` do: both are the same, or `narrow` is a single port among `wide`.
 fn ports_cover(wide: PortMatch, narrow: PortMatch) -> bool
     ensures { result ≡ true → spec.PortCovers wide narrow }
 {
@@ -77,7 +77,7 @@ fn ports_cover(wide: PortMatch, narrow: PortMatch) -> bool
     }
 }
 
-/// The same where none may be asked for.
+/// The same if a rule may ask for no ports.
 pub(crate) fn port_covers(wide: Option<PortMatch>, narrow: Option<PortMatch>) -> bool
     ensures { result ≡ true → spec.PortsCover wide narrow }
 {
@@ -88,7 +88,7 @@ pub(crate) fn port_covers(wide: Option<PortMatch>, narrow: Option<PortMatch>) ->
     }
 }
 
-/// Whether flags are asked for wherever others are.
+/// Whether the flags `wide` hold wherever `narrow` do.
 pub(crate) fn flags_cover(wide: FlagsCriterion, narrow: FlagsCriterion) -> bool
     ensures { result ≡ true → spec.FlagsCover wide narrow }
 {

@@ -7,7 +7,7 @@ use crate::rules::{covers, has_room, is_shadow};
 use pfr_ruleset::{FlatAnchor, Ruleset};
 use std::alloc::{AllocError, Global};
 
-/// How many rules a ruleset may have that is looked through. It takes a time that grows with the square of their number.
+/// The most rules of a ruleset that is searched. The search takes a time that grows with the square of their number.
 pub const MOST_RULES: usize = 2048;
 
 /// A rule that never decides.
@@ -24,7 +24,7 @@ pub struct Shadow {
 struct Standing {
     /// The innermost anchor round it, by its place from 1 on, or 0.
     anchor: usize,
-    /// The last rule that may come to decide behind it: that of the innermost quick anchor round it.
+    /// The last rule behind it that may decide: the last one of the innermost quick anchor round it.
     last: usize,
 }
 
@@ -34,7 +34,7 @@ const OPEN: Standing = Standing {
     last: usize::MAX,
 };
 
-/// Where so many rules stand.
+/// Where each of `rules` rules stands among the anchors.
 fn standings(
     alloc: Global,
     rules: usize,
@@ -55,13 +55,13 @@ fn standings(
     Ok(found)
 }
 
-/// Whether a rule at a place may decide for one at another place, where both hold, as far as their standings say.
+/// Whether the rule at place `by` may decide for the one at place `rule`, if both hold, as far as their standings say.
 fn may_decide(by: usize, wide: Standing, rule: usize, narrow: Standing) -> bool {
     let is_open = wide.anchor == 0 || wide.anchor == narrow.anchor;
     is_open && (by < rule || by <= narrow.last)
 }
 
-/// The place of a rule that may shadow the one at a place: a quick one before it, or one behind it.
+/// The place of a rule that may shadow the one at place `rule`: a quick one before it, or one behind it.
 fn candidate(ruleset: &Ruleset, standings: &[Standing], rule: usize) -> Option<usize> {
     let rules = ruleset.filter.rules();
     let tables = ruleset.tables.as_slice();
@@ -85,7 +85,7 @@ fn candidate(ruleset: &Ruleset, standings: &[Standing], rule: usize) -> Option<u
     None
 }
 
-/// Adds the rule at a place, if there is one by which it is shadowed.
+/// Adds the rule at place `rule`, if the one at place `by` is seen to shadow it.
 fn add(
     found: &mut Vec<Shadow>,
     ruleset: &Ruleset,
@@ -104,7 +104,8 @@ fn add(
     }
 }
 
-/// The rules of a ruleset that are seen to decide never, by their numbers. There are none in a ruleset of more than [`MOST_RULES`].
+/// The rules of a ruleset that are seen never to decide, by their numbers. There are none in a ruleset of more than
+/// [`MOST_RULES`].
 pub fn shadows(alloc: Global, ruleset: &Ruleset) -> Result<Vec<Shadow>, AllocError>
     ensures { IfOk result (λ found. All (λ shadow. spec.IsShadow ruleset.now shadow.rule shadow.by) found.items) }
 {

@@ -1,4 +1,4 @@
-//! Whether addresses are asked for wherever others are.
+//! Whether one criterion of addresses holds wherever another does.
 ghost use Rattle.std.specs.Prelude.{◌≡◌, true, IfSome};
 ghost use Rattle.pfr_shadows.specs.Shadows as spec;
 
@@ -7,7 +7,7 @@ use pfr_criteria::host_holds;
 use pfr_net::Net;
 use pfr_ruleset::{AddressTable, HostCriterion, HostSet};
 
-/// Whether any address is asked for.
+/// Whether a criterion holds for any address.
 fn is_any(criterion: HostCriterion) -> bool
     ensures { result ≡ true → spec.IsAny criterion }
 {
@@ -27,7 +27,7 @@ fn net_covers(wide: Net, narrow: Net) -> bool
     wide.bits <= narrow.bits && wide.holds(narrow.address)
 }
 
-/// The network whose addresses are asked for, if it is one.
+/// The network that a criterion asks for, if it asks for one.
 fn network_in(criterion: HostCriterion) -> Option<Net>
     ensures { IfSome result (λ net. criterion ≡ spec.network net) }
 {
@@ -40,7 +40,7 @@ fn network_in(criterion: HostCriterion) -> Option<Net>
     }
 }
 
-/// Whether all addresses of a network are asked for.
+/// Whether `wide` is seen to hold for all addresses of the network `narrow`.
 fn holds_all_of(tables: &[AddressTable], wide: HostCriterion, narrow: Net) -> bool
     ensures { result ≡ true → spec.HoldsAllOf tables.now wide narrow }
 {
@@ -50,7 +50,7 @@ fn holds_all_of(tables: &[AddressTable], wide: HostCriterion, narrow: Net) -> bo
     }
 }
 
-/// Whether addresses are asked for wherever others are.
+/// Whether `wide` is seen to hold for all addresses for which `narrow` does.
 pub(crate) fn host_covers(
     tables: &[AddressTable],
     wide: HostCriterion,

@@ -9,7 +9,7 @@ use crate::criteria::{
 use crate::hosts::host_covers;
 use pfr_ruleset::{AddressTable, FlatAnchor, FlatRule, PacketMatch, Ruleset};
 
-/// Whether packets are asked for wherever others are.
+/// Whether the criteria `wide` are seen to hold wherever `narrow` do.
 fn match_covers(tables: &[AddressTable], wide: &PacketMatch, narrow: &PacketMatch) -> bool
     ensures { result ≡ true → spec.MatchCovers tables.now wide.now narrow.now }
 {
@@ -26,7 +26,7 @@ fn match_covers(tables: &[AddressTable], wide: &PacketMatch, narrow: &PacketMatc
     destination && source
 }
 
-/// Whether a filter rule is seen to hold wherever another one does.
+/// Whether the filter rule `wide` is seen to hold wherever `narrow` does.
 pub fn covers(tables: &[AddressTable], wide: &FlatRule, narrow: &FlatRule) -> bool
     ensures { result ≡ true → spec.Covers tables.now wide.now narrow.now }
 {
@@ -69,7 +69,7 @@ fn goes_on_to(anchors: &[FlatAnchor], first: usize, second: usize) -> bool
     true
 }
 
-/// Whether the first of two rules, at these places, decides where both hold, as far as their places say.
+/// Whether the first of two rules, at these places, decides if both hold, as far as their places say.
 fn comes_to_decide(
     anchors: &[FlatAnchor],
     first: usize,
@@ -83,7 +83,7 @@ fn comes_to_decide(
         || (second < first && !other.is_quick && goes_on_to(anchors, second, first))
 }
 
-/// Whether a rule has room wherever it holds: the states that it keeps aren't limited.
+/// Whether a rule has room whenever it holds: the states that it keeps aren't limited.
 pub(crate) fn has_room(rule: &FlatRule) -> bool
     ensures { result ≡ spec.has_room rule.now }
 {
@@ -93,7 +93,7 @@ pub(crate) fn has_room(rule: &FlatRule) -> bool
     }
 }
 
-/// Whether the rule at a place never decides for the one at another place, as far as this is seen.
+/// Whether the rule at place `rule` is seen never to decide, since the one at place `by` decides instead.
 pub fn is_shadow(ruleset: &Ruleset, rule: usize, by: usize) -> bool
     ensures { result ≡ true → spec.IsShadow ruleset.now rule by }
 {

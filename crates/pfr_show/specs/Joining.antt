@@ -56,7 +56,7 @@ agree reached reason.StateInsert = is_block reached
 agree reached reason.StateLimit = is_block reached
 agree reached reason.NatExhausted = is_block reached
 
--- so many rules have one of this number, if one is named
+-- one of `rules` rules has this number, if one is named
 abbrev pub is_there : ℕ → Option RuleNumber → Bool
 is_there rules None = true
 is_there rules (Some number) = nat_lt number.0 rules

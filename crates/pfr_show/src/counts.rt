@@ -6,7 +6,7 @@ use std::alloc::AllocError;
 /// How many packets there are.
 #[derive(Clone, Copy)]
 pub struct Counts {
-    /// Those that were asked for.
+    /// The selected ones.
     pub shown: u64,
     /// All.
     pub packets: u64,

@@ -37,7 +37,7 @@ pub struct Met<'a> {
 pub enum Misfit {
     /// It is no line of verdicts.
     NoLine,
-    /// It doesn't say what is so of the packet.
+    /// What it says isn't so of the packet.
     OtherCapture,
     /// It names a rule that isn't there.
     OtherRuleset,
@@ -51,7 +51,7 @@ impl From<AllocError> for Misfit {
     }
 }
 
-/// Whether a packet's view is one of which a run gives this reason.
+/// Whether a run may give this reason for a packet of this view.
 fn fits(view: &View, reason: Reason) -> bool
     ensures { result ≡ spec.fits view.now reason }
 {
@@ -82,7 +82,7 @@ pub(crate) fn is_short(reason: Reason) -> bool
     }
 }
 
-/// Whether a run comes to this verdict for this reason.
+/// Whether a run may come to this verdict for this reason.
 fn agree(verdict: Verdict, reason: Reason) -> bool
     ensures { result ≡ spec.agree verdict reason }
 {
@@ -159,7 +159,7 @@ fn is_written(
     Ok(is_line(room.as_slice(), line))
 }
 
-/// Why a line by which a packet comes to this isn't joined with it, if it isn't.
+/// Says why a line isn't joined with a packet that comes to `outcome` by it, if it isn't.
 fn compare(
     run: Run<'_>,
     met: Met<'_>,
@@ -183,7 +183,8 @@ fn compare(
     Ok(())
 }
 
-/// What a packet came to by the line of verdicts, without its newline, that a run wrote of it. `room` is room for what a run writes.
+/// What a packet came to by the line of verdicts, without its newline, that a run wrote of it. `room` is room for what
+/// a run writes.
 pub fn join(
     alloc: Global,
     run: Run<'_>,

@@ -12,13 +12,13 @@ use std::alloc::AllocError;
 const NO_PACKET: &[u8] =
     b",\"protocol\":null,\"source\":null,\"destination\":null,\"flags\":null,\"icmp_type\":null,\"icmp_code\":null,\"fragment\":null,\"length\":null";
 
-/// Appends a number behind what stands before it.
+/// Appends `lead` and a number.
 fn append_count(text: &mut Vec<u8>, lead: &[u8], number: u64) -> Result<(), AllocError> {
     text.extend_from_slice(lead)?;
     append_number(text, number)
 }
 
-/// Appends a number, or null, behind what stands before it.
+/// Appends `lead` and a number, or null.
 fn append_option(text: &mut Vec<u8>, lead: &[u8], number: Option<u64>) -> Result<(), AllocError> {
     text.extend_from_slice(lead)?;
     match number {
@@ -27,7 +27,7 @@ fn append_option(text: &mut Vec<u8>, lead: &[u8], number: Option<u64>) -> Result
     }
 }
 
-/// Appends the number and the line of a rule behind what stands before them.
+/// Appends `number_lead` and the number of a rule, and `line_lead` and its line.
 fn append_rule(
     text: &mut Vec<u8>,
     number_lead: &[u8],
@@ -62,7 +62,7 @@ fn append_outcome(text: &mut Vec<u8>, outcome: &Outcome) -> Result<(), AllocErro
     text.extend_from_slice(b"\"")
 }
 
-/// Appends an end behind what stands before it.
+/// Appends `lead` and an end.
 fn append_end(text: &mut Vec<u8>, lead: &[u8], end: End) -> Result<(), AllocError> {
     text.extend_from_slice(lead)?;
     text.extend_from_slice(b"{\"address\":\"")?;

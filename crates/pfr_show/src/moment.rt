@@ -103,7 +103,7 @@ impl Calendar {
         Ok(())
     }
 
-    /// Appends `YYYY-MM-DD hh:mm:ss`, so many seconds behind the beginning of 1970.
+    /// Appends `YYYY-MM-DD hh:mm:ss`, for `seconds` seconds behind the beginning of 1970.
     pub fn append_second(&mut self, text: &mut Vec<u8>, seconds: u64) -> Result<(), AllocError> {
         self.turn(seconds / DAY)?;
         text.extend_from_slice(self.date.as_bytes())?;

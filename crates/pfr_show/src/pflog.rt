@@ -22,7 +22,7 @@ const VERSION: [u8; 4] = [2, 0, 4, 0];
 /// How many bytes stand before each packet.
 const BEFORE: u64 = 64;
 
-/// How many bytes a record has at most: the most that are read of one, and the header.
+/// The most bytes of a record: the most that are read of one, and the header.
 const MOST: u32 = 262_208;
 
 /// How many bytes of an interface's name are written.
@@ -34,13 +34,13 @@ const LENGTH: u8 = 61;
 /// The address family of IPv4.
 const INET: u8 = 2;
 
-/// What stands for a rule that there isn't.
+/// The number for no rule.
 const NONE: u32 = u32::MAX;
 
-/// What stands for a process that there isn't.
+/// The number for no process.
 const NO_PROCESS: u32 = 100_000;
 
-/// Appends the header of a capture, which counts nanoseconds if it is fine.
+/// Appends the header of a capture, which counts nanoseconds if `is_fine`.
 pub(crate) fn append_opening(text: &mut Vec<u8>, is_fine: bool) -> Result<(), AllocError> {
     let magic = if is_fine { NANOSECONDS } else { MICROSECONDS };
     text.extend_from_slice(&magic.to_le_bytes())?;
@@ -127,7 +127,8 @@ struct Datagram<'a> {
     original: u64,
 }
 
-/// The first bytes of a datagram, as many as its header says. If it is too short, nothing is known of that.
+/// The first bytes of a datagram, as many as its header says. It is whole if fewer were captured, or if its header
+/// can't be read.
 fn first_of<'a>(datagram: &'a [u8], view: &View) -> &'a [u8] {
     match view {
         View::Ipv4(packet) => datagram
@@ -156,7 +157,8 @@ fn four_bytes(number: u64) -> [u8; 4] {
     (number.min(u64::from(u32::MAX)) as u32).to_le_bytes()
 }
 
-/// Appends the record of a packet to a capture, which counts nanoseconds if it is fine. What isn't an IPv4 packet is left out.
+/// Appends the record of a packet to a capture, which counts nanoseconds if `is_fine`. What isn't an IPv4 packet is
+/// left out.
 pub(crate) fn append_record(
     text: &mut Vec<u8>,
     shown: &Shown<'_>,

@@ -27,7 +27,7 @@ pub enum Form {
     Count,
 }
 
-/// What is asked of packets.
+/// Which packets are printed, and how.
 #[derive(Clone, Copy)]
 pub struct Asked<'a> {
     /// The run that they are joined with.
@@ -39,7 +39,7 @@ pub struct Asked<'a> {
     pub form: Form,
 }
 
-/// Prints those packets that are selected into a sink, in the order in which it takes them.
+/// Prints the selected packets into a sink, in the order in which it takes them.
 #[derive(Drop)]
 pub struct Printer<'a, K> {
     asked: Asked<'a>,
@@ -49,7 +49,7 @@ pub struct Printer<'a, K> {
     /// Whether what is printed counts nanoseconds.
     is_fine: bool,
     calendar: Calendar,
-    /// How many packets were asked for.
+    /// How many packets were selected.
     shown: u64,
     /// What isn't printed yet.
     text: Vec<u8>,
@@ -102,7 +102,7 @@ impl<'a, K: Sink> Printer<'a, K> {
         }
     }
 
-    /// Appends a packet that came to this, if it is asked for.
+    /// Appends a packet that came to `outcome`, if it is selected.
     fn append(&mut self, met: Met<'_>, outcome: &Outcome) -> Result<(), AllocError> {
         let names = self.asked.names;
         let interface = names

@@ -14,7 +14,7 @@ pub struct Verdicts {
     pub skip: bool,
 }
 
-/// Which packets are shown: those for which all holds that is asked.
+/// Which packets are shown: those that meet all criteria that are given.
 #[derive(Clone, Copy)]
 pub struct Selection {
     /// Those with one of these verdicts.

@@ -23,7 +23,8 @@ const MOST_OF_LINE: u64 = 256;
 /// Why packets aren't taken any further.
 #[derive(Drop)]
 pub enum Stopped {
-    /// A capture is refused, or can't be read, behind so many packets. No stop is for a ruleset or an output.
+    /// A capture is refused, or can't be read, behind the packets that the stop counts. No stop is for a ruleset or an
+    /// output.
     Reading(Stop),
     /// The lines can't be read.
     Lines(io::Error),
@@ -58,7 +59,7 @@ pub trait Taker {
     /// Takes the next packet.
     fn take(&mut self, met: Met<'_>, outcome: &Outcome) -> Result<(), Stopped>;
 
-    /// Some packets were taken. More may follow, but for those behind one that isn't joined.
+    /// Some packets were taken. More may follow, unless one isn't joined.
     fn rest(&mut self) -> Result<(), Stopped>;
 }
 
@@ -131,7 +132,7 @@ impl Joiner<'_> {
         }
     }
 
-    /// Joins packets with the next lines, and hands them on. The first one is the one behind so many.
+    /// Joins packets with the next lines, and hands them on. They come behind `taken` others.
     fn take_each<L: BufRead, T: Taker>(
         &mut self,
         alloc: Global,
@@ -148,7 +149,7 @@ impl Joiner<'_> {
         Ok(())
     }
 
-    /// The same, and the taker rests then, also if a packet is no more joined with a line.
+    /// The same, and then the taker rests, even if a packet isn't joined with a line.
     fn take<L: BufRead, T: Taker>(
         &mut self,
         alloc: Global,
@@ -173,7 +174,7 @@ fn forms_of(alloc: Global, merge: &Merge) -> Result<Vec<Form>, AllocError> {
     Ok(forms)
 }
 
-/// Takes the packets of records, behind so many, and gives the records back.
+/// Takes the packets of records, behind `taken` others, and gives the records back.
 fn take_records<L: BufRead, T: Taker>(
     alloc: Global,
     merge: &mut Merge,
@@ -191,7 +192,7 @@ fn take_records<L: BufRead, T: Taker>(
     Ok(())
 }
 
-/// Reads the next packets of captures, behind so many, and takes them.
+/// Reads the next packets of captures, behind `taken` others, and takes them.
 fn take_turn<R: Source, L: BufRead, T: Taker>(
     alloc: Global,
     merge: &mut Merge,

@@ -62,7 +62,7 @@ text_change context word (first ∷ marks) (Some found) = Some (change_by contex
 
 -- ---- what is given
 
--- as what a word is asked where words say this
+-- what a word names, by what words say
 abbrev pub subject_of : Says → Option Subject
 subject_of says.Address = Some subject.Address
 subject_of says.Target = Some subject.Address
@@ -79,7 +79,7 @@ abbrev pub says_target : Says → Bool
 says_target says.Target = true
 says_target _ = false
 
--- one value has to stand where words say this, and no list
+-- one value must stand here, and no list
 abbrev pub takes_one : Context → Bool
 takes_one context = context.behind_operator || says_target context.says && not context.in_braces
 
@@ -110,7 +110,8 @@ text_of context asked spelled texts =
     else written_texts (nat_lt 1 (length texts) && not context.in_braces)
     (are_needless context asked spelled.word (joined_by (codes ", ") texts)) (joined_by (codes ", ") texts)
 
--- what is given for a word as this subject, as it is written where it stands: several texts not behind a sign that asks for one
+-- what is given for a word as this subject, as it is written in its place: several texts not behind a sign that wants
+-- one
 unfoldable pub text_for : Given → Context → Subject → Spelled → Option (List ℕ)
 text_for given context asked spelled = text_of context asked spelled (texts_of given asked (spelled.word ++ spelled.suffix))
 

@@ -27,7 +27,7 @@ abbrev pub last_value : Option (List ℕ) → List Macro → List ℕ → Option
 last_value found [] name = found
 last_value found (here ∷ macros) name = last_value (if bytes_eq here.name name then here.value else found) macros name
 
--- none is known where 1000 are defined
+-- none is known if 1000 are defined
 abbrev pub value_of : List Macro → List ℕ → Option (List ℕ)
 value_of macros name = if nat_le 1000 (length macros) then None else last_value None macros name
 
@@ -116,7 +116,7 @@ abbrev pub with_piece : List ℕ → Option (List ℕ) → List ℕ
 with_piece value None = value
 with_piece value (Some piece) = with_blank value ++ piece
 
--- the value is known still: 4096 bytes at most
+-- the value is still known: 4096 bytes at most
 abbrev pub is_known : List ℕ → Option (List ℕ) → Bool
 is_known value None = false
 is_known value (Some piece) = nat_le (length (with_blank value ++ piece)) 4096

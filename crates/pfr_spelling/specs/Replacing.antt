@@ -112,7 +112,7 @@ value_changes given known context passed (mark ∷ marks) =
     value_changes_at given known context passed (mark ∷ marks)
     ++ value_changes given known (context_behind context (mark ∷ marks)) (value_passed given known context passed (mark ∷ marks)) marks
 
--- a value as it is written where it stands
+-- a value as it is written in a context
 unfoldable pub value_text : Given → Known → Context → List ℕ → Text
 value_text given known context value = let changes = value_changes given known (record context { behind = beginning }) 0 (marks value) in record {
   bytes = (rewritten value changes).text;
@@ -149,7 +149,7 @@ abbrev pub ends_list : Bool → List Mark → Bool
 ends_list ends [] = ends
 ends_list ends (mark ∷ marks) = ends_list (is (codes "}") mark) marks
 
--- what of a value stands in a list: of a list what is between its braces
+-- the part of a value that stands in a list: if the value is a list, what is between its braces
 abbrev pub listed : Bool → List ℕ → List Mark → List ℕ
 listed in_braces value [] = value
 listed in_braces value (first ∷ marks) =

@@ -86,7 +86,7 @@ first_address known (word ∷ marks) =
     else if list_from 0 (word ∷ marks) == 0 then None
     else Some (record { count = list_from 0 (word ∷ marks); address = first_element known marks })
 
--- of a value with `count` marks, if it is all of it
+-- the address of a value with `count` marks, if its target is the whole value
 abbrev pub as_one : ℕ → Option First → Option First
 as_one count None = None
 as_one count (Some found) = if not (found.count == count) then None else Some (record { count = 1; address = found.address })

@@ -27,7 +27,7 @@ pub struct Known {
     pub tables: Items<Table>,
     /// The macros so far.
     pub macros: Items<Macro>,
-    /// How many bytes of their values may still be looked at.
+    /// How many bytes of the macros' values may still be read.
     pub left: usize,
 }
 
@@ -42,7 +42,7 @@ pub struct Replaced {
     pub reason: Reason,
 }
 
-/// A text that no words were rewritten in.
+/// A text in which no words were rewritten.
 fn as_given(alloc: Global, bytes: Items<u8>) -> Text
     ensures { result ≡ spec.as_given bytes }
 {
@@ -52,7 +52,8 @@ fn as_given(alloc: Global, bytes: Items<u8>) -> Text
     }
 }
 
-/// Whether a word ends right where a mark begins that isn't plain, and so may become a word that isn't told from it.
+/// Whether a word ends right where a mark begins that isn't plain. A text in the place of the mark may then run into
+/// that word.
 fn is_parted(context: Context, mark: &Mark<'_>) -> bool
     ensures { result ≡ spec.is_parted context mark.now }
 {
@@ -61,7 +62,8 @@ fn is_parted(context: Context, mark: &Mark<'_>) -> bool
         && !is_plain(mark.piece.as_slice())
 }
 
-/// How many of the ends of lines in what goes stay: all of a statement or of a list, and none of a line that is continued.
+/// How many of the ends of lines in what goes stay: all of a statement or of a list, and none of a line that is
+/// continued.
 fn kept_lines(context: Context, count: usize) -> usize
     ensures { result ≡ spec.kept_lines context count }
 {
@@ -71,7 +73,8 @@ fn kept_lines(context: Context, count: usize) -> usize
     }
 }
 
-/// The first marks as a change that puts a text in their place, for a word among them; nothing without a text or a mark.
+/// The first marks as a change that puts a text in their place, for a word among them; nothing without a text or a
+/// mark.
 #[tactic(auto, unfolding(crate::specs::Known::text_change))]
 pub fn text_change<'a>(
     context: Context,
@@ -105,7 +108,7 @@ pub fn text_change<'a>(
     })
 }
 
-/// As what a word is asked where words say this.
+/// What a word names, by what words say.
 fn subject_of(says: Says) -> Option<Subject>
     ensures { result ≡ spec.subject_of says }
 {
@@ -128,7 +131,7 @@ fn reason_for(subject: Subject) -> Reason
     }
 }
 
-/// Whether one value has to stand where words say this, and no list.
+/// Whether one value must stand here, and no list.
 fn takes_one(context: Context) -> bool
     ensures { result ≡ spec.takes_one context }
 {
@@ -148,7 +151,7 @@ fn enclosed(alloc: Global, encloses: bool, texts: &[u8]) -> Result<Items<u8>, Al
     Ok(made)
 }
 
-/// Whether a service is known to the strict reader with this port.
+/// Whether the strict reader knows a service with this port.
 fn is_known_port(name: &[u8], port: &[u8]) -> bool
     ensures { result ≡ spec.is_known_port name.now port.now }
 {
@@ -171,7 +174,7 @@ fn are_needless(context: Context, subject: Subject, word: &[u8], texts: &[u8]) -
     }
 }
 
-/// Texts as they are written for a word, if they are.
+/// Texts as they are written for a word, if they are written.
 fn written_texts(
     alloc: Global,
     encloses: bool,
@@ -186,7 +189,7 @@ fn written_texts(
     Ok(Some(enclosed(alloc, encloses, texts)?))
 }
 
-/// What is given for a word as this subject, as it is written where it stands.
+/// What is given for a word as this subject, as it is written in its place.
 #[tactic(auto, unfolding(crate::specs::Known::text_for))]
 fn text_for(
     alloc: Global,
@@ -310,7 +313,8 @@ pub(crate) fn given_here<'a>(
 }
 
 impl Known {
-    /// The value of the macro that the first of these marks uses without a suffix, if it is known and has at most `left` bytes.
+    /// The value of the macro that the first of these marks uses without a suffix, if it is known and has at most
+    /// `left` bytes.
     pub fn value_within<'m>(&'m self, left: usize, marks: &'m [Mark<'_>]) -> Option<Bytes<'m>>
         ensures { result ≡ spec.value_within self.now left marks.now }
     {
@@ -321,7 +325,8 @@ impl Known {
         }
     }
 
-    /// How many bytes the value of the macro has that the first of these marks uses without a suffix; 0 if it isn't known.
+    /// The length in bytes of the value of the macro that the first of these marks uses without a suffix; 0 if it isn't
+    /// known.
     pub fn value_len(&self, marks: &[Mark<'_>]) -> usize
         ensures { result ≡ spec.value_len self.now marks.now }
     {
@@ -334,8 +339,8 @@ impl Known {
         }
     }
 
-    /// Goes behind the first of these marks: the macro that is defined there is known from now on, and the value that is used there was
-    /// looked at.
+    /// Goes behind the first of these marks: a macro that is defined there is known from now on, and a value that is
+    /// used there was read.
     pub fn go_behind(
         &mut self,
         alloc: Global,

@@ -1,8 +1,11 @@
-//! What the words of a ruleset text are spelled out as: the values of macros, the names that are written for those of tables, what the
+//! What the words of a ruleset text are spelled out as: the values of macros, other names for tables, what the
 //! surroundings give for names, and the first addresses of targets.
 //!
-//! [`known::Known`] is what is known of a text beside a statement. [`replacing::value_here`], [`replacing::macro_here`],
-//! [`replacing::file_here`] and [`targets::target_here`] answer what is rewritten at the front of some marks by it.
+//! A helper of `pfr_rewrite`.
+//!
+//! [`known::Known`] is what is known of a text beside a statement. [`replacing::value_here`],
+//! [`replacing::macro_here`], [`replacing::file_here`] and [`targets::target_here`] answer what is rewritten by it at
+//! the front of some marks.
 #![tactic(auto)]
 
 pub mod known;

@@ -9,10 +9,10 @@ use pfr_words::spelling::token_of;
 use pfr_words::{Bytes, Token};
 use std::alloc::{AllocError, Global};
 
-/// How many macros a text may define. Behind as many none is known.
+/// With this many macros none is known.
 const MOST_MACROS: usize = 1000;
 
-/// How many bytes the value of a macro has that is known.
+/// How many bytes a known value of a macro has at most.
 const MOST_BYTES: usize = 4096;
 
 /// A macro that is defined.
@@ -24,7 +24,7 @@ pub struct Macro {
     pub value: Option<Items<u8>>,
 }
 
-/// A word, and what is behind it without a blank.
+/// A word, and its suffix: what is behind it without a blank.
 #[derive(Drop)]
 pub(crate) struct Spelled<'m> {
     pub word: Bytes<'m>,
@@ -62,7 +62,7 @@ fn known_value(found: &Macro) -> Option<Bytes<'_>>
     }
 }
 
-/// The value of the last macro of a name, if it is known. None is known where 1000 macros are defined.
+/// The value of the last macro of a name, if it is known. None is known if 1000 macros are defined.
 pub fn value_of<'m>(macros: &'m [Macro], name: &[u8]) -> Option<Bytes<'m>>
     ensures { result ≡ spec.value_of macros.now name.now }
 {
@@ -172,7 +172,7 @@ fn begins_sound(text: &[u8]) -> bool
     }
 }
 
-/// Whether a quoted text may stand in the value of a macro: the strict reader wants none else.
+/// Whether a quoted text may stand in the value of a macro: the strict reader refuses all others.
 fn is_sound(text: &[u8]) -> bool
     ensures { result ≡ spec.is_sound text.now }
 {
@@ -238,7 +238,7 @@ fn piece_value(
     }
 }
 
-/// Puts what a piece gives behind a value, with a blank between. Answers whether the value is known still.
+/// Puts what a piece gives behind a value, with a blank between. Answers whether the value is still known.
 fn add(value: &mut Items<u8>, piece: &Option<Items<u8>>) -> Result<bool, AllocError>
     ensures value { OnOk result (value.new ≡ spec.with_piece value.old piece.now) }
     ensures known { IfOk result (λ known. known ≡ spec.is_known value.old piece.now) }
@@ -253,7 +253,7 @@ fn add(value: &mut Items<u8>, piece: &Option<Items<u8>>) -> Result<bool, AllocEr
     Ok(value.len() <= MOST_BYTES)
 }
 
-/// The value that the pieces up to the line's end make, if it is known.
+/// The value of the pieces up to the line's end, if it is known.
 fn value_in(
     alloc: Global,
     macros: &[Macro],

@@ -155,8 +155,8 @@ fn table_here<'a>(
     ))
 }
 
-/// What is rewritten at the front of marks, of the text or of a macro's value: the name of a table, a word that is given or a range of
-/// ports.
+/// What is rewritten at the front of marks, of the text or of a macro's value: the name of a table, a word that is
+/// given or a range of ports.
 #[tactic(auto, unfolding(crate::specs::Replacing::value_here))]
 pub fn value_here<'a>(
     alloc: Global,
@@ -205,8 +205,8 @@ fn value_change_at<'a>(
     Ok(or_change(found, context, marks))
 }
 
-/// Puts what is rewritten at the front of a value's marks behind the changes so far, and answers how many of the marks behind belong
-/// to a change.
+/// Puts what is rewritten at the front of a value's marks behind the changes so far, and answers how many of the marks
+/// behind belong to a change.
 fn value_step<'a>(
     alloc: Global,
     changes: &mut Items<Change<'a>>,
@@ -228,7 +228,7 @@ fn value_step<'a>(
     )
 }
 
-/// What is rewritten of a value that stands somewhere.
+/// What is rewritten of a value in a context.
 fn value_changes<'a>(
     alloc: Global,
     given: &Given,
@@ -260,7 +260,7 @@ fn reasons_of(alloc: Global, changes: &[Change<'_>]) -> Result<Items<Reason>, Al
     Ok(reasons)
 }
 
-/// A value as it is written where it stands.
+/// A value as it is written in a context.
 #[tactic(auto, unfolding(crate::specs::Replacing::value_text))]
 pub(crate) fn value_text(
     alloc: Global,
@@ -282,7 +282,7 @@ pub(crate) fn value_text(
     })
 }
 
-/// Whether a macro's value is written out before these marks, since no macro may stand there.
+/// Whether a macro's value must be written out before these marks, since no macro may stand there.
 fn is_written_out(context: Context, behind: &[Mark<'_>]) -> bool
     ensures { result ≡ spec.is_written_out context behind.now }
 {
@@ -324,7 +324,7 @@ fn ends_list(marks: &[Mark<'_>]) -> bool
     ends
 }
 
-/// What of a value stands in a list: of a list what is between its braces.
+/// The part of a value that stands in a list: if the value is a list, what is between its braces.
 fn listed<'v>(in_braces: bool, value: &'v [u8], marks: &[Mark<'_>]) -> &'v [u8]
     ensures { result.now ≡ spec.listed in_braces value.now marks.now }
 {

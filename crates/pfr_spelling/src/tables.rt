@@ -1,4 +1,4 @@
-//! The names of tables, and those that are written for them.
+//! The names of tables, and the names that are written for them.
 ghost use Rattle.std.specs.Prelude.{◌≡◌, ◌≤◌, ◌++◌, [], length, take, true, IfOk, OnOk};
 ghost use Rattle.pfr_spelling.specs.Tables as spec;
 
@@ -9,7 +9,7 @@ use pfr_marks::mark::{Mark, is};
 use pfr_words::names::is_name;
 use std::alloc::{AllocError, Global};
 
-/// How many tables are told apart; the names of others stay as they are. pf has 1000 tables where nothing is set.
+/// How many tables are told apart; the names of others stay as they are. pf has 1000 tables if nothing else is set.
 const MOST_TABLES: usize = 1000;
 
 /// How many bytes the name of a table may have.
@@ -23,7 +23,7 @@ const FRONT_BYTES: usize = 24;
 pub struct Table {
     /// Its name.
     pub name: Items<u8>,
-    /// The name that is written for it if no other one is written so: of letters, digits and `_`, at most 31 bytes.
+    /// The name that is written for it if no other table's is the same: letters, digits and `_`, at most 31 bytes.
     pub plain: Items<u8>,
 }
 
@@ -57,7 +57,7 @@ fn front(most: usize, text: &[u8]) -> &[u8]
     front
 }
 
-/// A name with letters, digits and `_` alone, in as many bytes as it may have.
+/// A name with `_` for bytes other than letters and digits, cut to 31 bytes.
 fn plain_name(alloc: Global, name: &[u8]) -> Result<Items<u8>, AllocError>
     ensures { IfOk result (λ made. made ≡ spec.plain_name name.now) }
 {
@@ -81,7 +81,7 @@ fn place_of(tables: &[Table], name: &[u8]) -> usize
     tables.len()
 }
 
-/// For how many tables this name would be written.
+/// How many tables have `plain` as their plain name.
 fn alike(tables: &[Table], plain: &[u8]) -> usize
     ensures value { result ≡ spec.alike tables.now plain.now }
     ensures within { result ≤ length tables.now }
@@ -134,7 +134,7 @@ fn numbered(alloc: Global, plain: &[u8], number: usize) -> Result<Items<u8>, All
     Ok(made)
 }
 
-/// A name that is written for a table, if it may have it and no other one has it.
+/// A name, if a table may have it and it is the plain name of at most `most` tables.
 fn if_free(tables: &[Table], most: usize, name: Items<u8>) -> Option<Items<u8>>
     ensures { result ≡ spec.if_free tables.now most name }
 {
@@ -145,7 +145,7 @@ fn if_free(tables: &[Table], most: usize, name: Items<u8>) -> Option<Items<u8>>
     }
 }
 
-/// The front of a table's name with its number, if the table may have it and no other one has it.
+/// The front of a table's name with its number, if a table may have it and no other table has it.
 fn numbered_name(
     alloc: Global,
     tables: &[Table],
@@ -158,7 +158,8 @@ fn numbered_name(
     Ok(if_free(tables, 0, numbered(alloc, plain, number)?))
 }
 
-/// The name that is written for one that stands in the value of a macro alone: if no table of the text has it, and all are known.
+/// The name that is written for a table that only a macro's value names, if no table of the text has that name and all
+/// tables are known.
 fn other_name(tables: &[Table], plain: Items<u8>) -> Option<Items<u8>>
     ensures { result ≡ spec.other_name tables.now plain }
 {
@@ -175,7 +176,7 @@ fn is_named(tables: &[Table], name: &[u8]) -> bool
     place_of(tables, name) != tables.len()
 }
 
-/// The name that is written for that of a table of the text.
+/// The name that is written for the name of a table of the text.
 fn text_name(
     alloc: Global,
     tables: &[Table],
@@ -190,7 +191,7 @@ fn text_name(
     numbered_name(alloc, tables, name, plain.as_slice())
 }
 
-/// The name that is written for a table's name that it may not have here.
+/// The name that is written for a name that a table may not have here.
 #[tactic(auto, unfolding(crate::specs::Tables::new_name))]
 pub(crate) fn new_name(
     alloc: Global,

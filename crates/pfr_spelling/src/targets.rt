@@ -107,7 +107,7 @@ fn address_of(alloc: Global, known: &Known, element: &[u8]) -> Result<Items<u8>,
     }
 }
 
-/// The first element of a list, by what is behind its brace, that is no IPv6 address.
+/// The first element of a list that is no IPv6 address. `behind` is what stands behind the list's brace.
 #[tactic(auto, unfolding(crate::specs::Targets::first_element))]
 fn first_element(alloc: Global, known: &Known, behind: &[Mark<'_>]) -> Result<Items<u8>, AllocError>
     ensures { IfOk result (λ made. made ≡ spec.first_element known.now behind.now) }
@@ -131,7 +131,7 @@ pub fn list_len(marks: &[Mark<'_>]) -> usize
     0
 }
 
-/// The one address that is written for a target, and how many marks that has; nothing if it is one already.
+/// The one address that is written for a target, and how many marks the target has.
 #[derive(Drop)]
 struct First {
     count: usize,

@@ -84,7 +84,7 @@ moves_through r es fs kept next sorted found is moved =
     ∙ ap (set_value (λ k. k == n) es) moved
     ∙ moves n (moved_by r) es kept sorted (ap (λ (test : ℕ → Bool). lookup test es) (sym (at_is n)) ∙ sym found)
 
--- the map where there is no such state
+-- the map if there is no such state
 pub stays_through : (r : Update) (es : Standing) → None ≡ lookup (is_at (nat_cmp r.number.0)) es → es ≡ with_update es r
 stays_through r es none =
     let n = r.number.0 in

@@ -7,6 +7,6 @@ use Rattle.pfr_standby.specs.Standby.{Standing, state_of}
 abbrev pub NoneAbove : ℕ → Standing → Type 0
 NoneAbove n standing = (m : ℕ) → n < m → state_of m standing ≡ None
 
--- the greatest of a number and those of insertions
+-- the greatest of a number and the numbers of insertions
 abbrev pub greatest_of : ℕ → List Insertion → ℕ
 greatest_of n rs = fold (λ greatest r. max greatest r.number.0) n rs

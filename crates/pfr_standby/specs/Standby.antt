@@ -48,19 +48,19 @@ kept_of r = record {
 abbrev pub moved_by : Update → Kept → Kept
 moved_by r kept = record kept { maker = r.maker; other = r.other; timeout = r.timeout }
 
--- with the state of an insertion, at the place of its number
+-- the states after an insertion, whose state goes to the place of its number
 abbrev pub with_insertion : Standing → Insertion → Standing
 with_insertion standing r = insert_entry nat_cmp standing r.number.0 (kept_of r)
 
--- with the ends and the timeout of an update in the state of its number, if it is held
+-- the states after an update: the state of its number, if it is held, gets the update's ends and timeout
 abbrev pub with_update : Standing → Update → Standing
 with_update standing r = map (λ held. if held.0 == r.number.0 then (held.0, moved_by r held.1) else held) standing
 
--- without the state of a number
+-- the states without the state of a number
 abbrev pub without : Standing → ℕ → Standing
 without standing n = filter (λ held. not (held.0 == n)) standing
 
--- without the state of a deletion
+-- the states without the state of a deletion
 abbrev pub without_deletion : Standing → Deletion → Standing
 without_deletion standing r = without standing r.number.0
 

@@ -46,7 +46,7 @@ pub(crate) fn insert_all(
     Ok(())
 }
 
-/// The greatest of a number and those of insertions.
+/// The greatest of a number and the numbers of insertions.
 pub(crate) fn greatest_of(number: u64, insertions: &[Insertion]) -> u64
     ensures { result ≡ bound.greatest_of number insertions.now }
 {

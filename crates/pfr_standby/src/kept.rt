@@ -18,7 +18,7 @@ pub struct Kept {
     pub maker: Peer,
     pub other: Peer,
     pub protocol: Protocol,
-    /// The way of the packet that made it.
+    /// The direction of the packet that made it.
     pub direction: Direction,
     pub timeout: Timeout,
 }

@@ -1,4 +1,4 @@
-//! A standby: what it holds of states, message by message.
+//! A standby: what it holds of states, message by message. A helper of `pfr_sync` and `pfr_stream`.
 //!
 //! A [`Standby`] holds what messages say of states: their keys, direction, rule, ends and timeout, by number. It
 //! [takes](Standby::take) a message whole or refuses it, and a refused message changes nothing.

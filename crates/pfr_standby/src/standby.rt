@@ -16,8 +16,8 @@ use std::marker::Model;
 #[derive(Drop)]
 pub struct Standby {
     states: BTreeMap<u64, Kept>,
-    /// No greater number was ever inserted. A run numbers its states by rising numbers, so that for most insertions
-    /// it takes no search to see that there is no such state.
+    /// No greater number was ever inserted. A run numbers its states by rising numbers, so most insertions need no
+    /// search to see that there is no such state.
     greatest: u64,
 }
 

@@ -126,7 +126,7 @@ none_without n xs = none_any (is_number n) (without n xs) (λ a h. elim (cases_B
   | inr other ↦ other
 ])
 
--- where no state has the number
+-- if no state has the number
 pub all_without : (n : StateNumber) (xs : List State) → list_any (is_number n) xs ≡ false → without n xs ≡ xs
 all_without n [] none = refl
 all_without n (x ∷ xs) none =

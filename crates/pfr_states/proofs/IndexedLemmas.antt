@@ -49,7 +49,7 @@ pub any_by_place : (test : State → Bool) (all : List Held) (result : Option Pl
 any_by_place test all None none = sym none
 any_by_place test all (Some place) passed = (let p = who_passes test all place passed in sym (some_any test (states_of all) p.0.value.state (in_states all p.0 p.2) p.3))
 
--- where no place has a number, no state has it
+-- if no place has a number, no state has it
 pub state_absent : (n : StateNumber) (all : List Held) → AreNumbered all → place_of (of_number n.0 all) ≡ None → state_of n (states_of all) ≡ None
 state_absent n all numbers none = number_found n all numbers ∙ by (of_number n.0 all) none where
   by : (r : Option Held) → place_of r ≡ None → option_map (λ (p : Held). p.value.state) r ≡ None

@@ -112,7 +112,7 @@ states_value place value all p numbers in_order own is number =
           rw (other, apart) refl
     ])
 
--- where a place isn't among others, they stay as they are
+-- if a place isn't among others, they stay as they are
 untouched : (weight : Held → ℕ) (place : Place) (value : Stored) (xs : List Held) → list_any (is_at place) xs ≡ false → total weight (with_value place value xs) ≡ total weight xs
 untouched weight place value [] none = refl
 untouched weight place value (x ∷ xs) none =
@@ -135,14 +135,14 @@ total_value weight place value (x ∷ xs) p own is =
       or_self None x = x
       or_self (Some y) x = y
 
--- where no one stands at a place, nothing is written
+-- if no state stands at a place, nothing is written
 pub vacant_value : (place : Place) (value : Stored) (all : List Held) → at place all ≡ None → with_value place value all ≡ all
 vacant_value place value [] none = refl
 vacant_value place value (x ∷ xs) none =
     let other : is_at place x ≡ false = found_none (is_at place) (x ∷ xs) none x (here x xs) in
     rw other (ap (λ (rest : List Held). x ∷ rest) (vacant_value place value xs (rw other at none)))
 
--- where the same state is written, the states stay
+-- if the same state is written, the states stay
 pub same_states : (place : Place) (value : Stored) (all : List Held) (p : Held) → have_own_places all ≡ true → at place all ≡ Some p → value.state ≡ p.value.state → states_of (with_value place value all) ≡ states_of all
 same_states place value all p own is same =
     let there = found_there (is_at place) all p is in

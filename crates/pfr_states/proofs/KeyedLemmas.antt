@@ -132,7 +132,7 @@ placed_there all own test place is none = by (find test all) refl is where
   by None found is = cc
   by (Some p) found is = (let same = value_there all own test place (ap (λ (r : Option Held). place_of r) found ∙ is) in let some : value_of (find test all) ≡ Some p.value = ap (λ (r : Option Held). value_of r) found in cc)
 
--- where no one has a number, no one goes
+-- if no state has a number, none is removed
 pub none_without : (n : ℕ) (all : List Held) → place_of (of_number n all) ≡ None → all ≡ without_placed n all
 none_without n [] none = refl
 none_without n (x ∷ xs) none = elim (cases_Bool (is_of_number n x)) [

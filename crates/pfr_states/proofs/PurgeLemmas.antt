@@ -20,7 +20,7 @@ kept_all : {X : Type 0} (q : X → Bool) (xs : List X) → ((x : X) → Contains
 kept_all q [] all = refl
 kept_all q (x ∷ xs) all = rw (all x (here x xs)) (ap (λ xs. x ∷ xs) (kept_all q xs (λ y h. all y (there x xs y h))))
 
--- what a second filter keeps of the first one's, where the first keeps all that the second does
+-- what a second filter keeps of the first one's list, if the first keeps all that the second does
 kept_again : {X : Type 0} (p q : X → Bool) (xs : List X) → ((x : X) → Contains xs x → q x ≡ true → p x ≡ true) → filter q (filter p xs) ≡ filter q xs
 kept_again p q [] keeps = refl
 kept_again p q (x ∷ xs) keeps =

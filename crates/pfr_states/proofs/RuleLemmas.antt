@@ -111,7 +111,7 @@ module _ (counts : List ℕ) (all : List Held) (counted : AreCounted counts all)
         let level = moved n in
         omega (arith, few, most, level)
 
-    -- where the rule stays, the counts stay
+    -- if the rule stays, the counts stay
     pub rules_same : p.value.state.rules.filter ≡ stored.state.rules.filter → AreCounted counts (with_value place stored all)
     rules_same rule n =
         let level = count_value n place stored all p own is in

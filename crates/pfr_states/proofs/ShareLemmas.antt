@@ -95,7 +95,7 @@ other_stack s xs r q is none also = elim (cases_Bool q) [
 
 -- ---- the state of a number
 
--- where no state has a key in common, none of another number has
+-- if no state has a key in common, no state of another number has
 pub others_free : (s : State) (xs : List State) → list_any (shares_key s) xs ≡ false → list_any (other_shares s) xs ≡ false
 others_free s xs free = none_any (other_shares s) xs (λ a h. and_right (not (is_number s.number a)) (shares_key s a) (none_of (shares_key s) xs a free h))
 

@@ -17,11 +17,11 @@ found_in table side key scope = at side key scope table.states
 unfoldable pub has_room_in : StateTable → Bool
 has_room_in table = has_room table.limit table.states
 
--- there is room for one more of the filter rule of this number, which may have `most`
+-- there is room for one more state of the filter rule with this number, whose limit is `most`
 unfoldable pub has_rule_room_in : StateTable → ℕ → ℕ → Bool
 has_rule_room_in table rule most = has_rule_room rule most table.states
 
--- a table once the states are gone whose deadline has come
+-- a table once the states whose deadline has come are gone
 unfoldable pub purged_at : Clock → StateTable → StateTable
 purged_at clock table = record { states = purged clock table.states; limit = table.limit }
 

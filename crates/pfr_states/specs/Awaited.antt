@@ -1,4 +1,4 @@
--- By which deadlines states wait.
+-- The deadlines by which states wait.
 use Rattle.std.specs.Prelude.{ℕ, ◌≤◌, ◌==◌, ◌&&◌, Bool, false, not, if◌then◌else◌, List, fold, Option, Some, None}
 use Rattle.std.specs.List.{Contains}
 use Rattle.pfr_places.specs.Places.{Placed, at, value_of}
@@ -17,15 +17,15 @@ pub record IsAwaited (waits : List Wait) (placed : Placed Stored) : Type 0 where
   pub there : Contains waits (wait_of placed)
   pub early : placed.value.waits.0 ≤ placed.value.state.deadline.0
 
--- each does
+-- each state does
 abbrev pub AreAwaited : List Wait → List (Placed Stored) → Type 0
 AreAwaited waits all = (placed : Placed Stored) → Contains all placed → IsAwaited waits placed
 
--- whether a state waits by just this
+-- whether a state waits by exactly this deadline
 abbrev pub waits_by : Wait → Stored → Bool
 waits_by wait stored = stored.waits.0 == wait.0.0 && stored.state.number.0 == wait.1.0
 
--- the state that does
+-- the state that waits by exactly this deadline
 abbrev pub kept_by : Wait → Option Stored → Option Stored
 kept_by wait None = None
 kept_by wait (Some stored) = if waits_by wait stored then Some stored else None
@@ -39,7 +39,7 @@ is_kept_at wait all = is_kept_by wait (value_of (at wait.2 all))
 
 -- ---- the first of all
 
--- the state that waits by this, where its own deadline has come
+-- the state that waits by this deadline, if its own has come
 abbrev pub due_if_kept : Clock → Wait → Option Stored → Option State
 due_if_kept clock wait None = None
 due_if_kept clock wait (Some stored) = if waits_by wait stored && not (lives clock stored.state) then Some stored.state else None
@@ -47,16 +47,16 @@ due_if_kept clock wait (Some stored) = if waits_by wait stored && not (lives clo
 abbrev pub due_by : Clock → List (Placed Stored) → Wait → Option State
 due_by clock all wait = due_if_kept clock wait (value_of (at wait.2 all))
 
--- a state that the filter rule of this number made
+-- a state that the filter rule with this number made
 abbrev pub is_some_of_rule : ℕ → Option State → Bool
 is_some_of_rule rule None = false
 is_some_of_rule rule (Some state) = is_of_rule rule state
 
--- the first of two, where there are two
+-- the first of two, if there are two
 abbrev pub sooner : Option State → Option State → Option State
 sooner first None = first
 sooner first (Some state) = earlier first state
 
--- the first of those that wait by one of these
+-- the first of the due states that wait by one of these deadlines
 abbrev pub first_by : Clock → List (Placed Stored) → List Wait → Option State
 first_by clock all waits = fold (λ first wait. sooner first (due_by clock all wait)) None waits

@@ -14,16 +14,16 @@ use Rattle.pfr_states.specs.States.{at, is_found, is_number, is_same_key, lives,
 
 -- ---- who has a key
 
--- one that passes a test; none if none does
+-- an element that passes a test, or None if none does
 abbrev pub IsAnswer : {X : Type 0} → (X → Bool) → List X → Option X → Type 0
 IsAnswer {X} test xs None = (x : X) → Contains xs x → test x ≡ false
 IsAnswer test xs (Some x) = Contains xs x × (test x ≡ true)
 
--- a state of another number is found
+-- a state is found and has another number
 abbrev pub is_another : StateNumber → Side → Key → Binding → State → Bool
 is_another number side key scope state = not (is_number number state) && is_found side key scope state
 
--- a binding has all interfaces of a scope, so that only one state which is found by the scope may have it
+-- a binding has all interfaces of a scope, so that only one state that is found by the scope may have it
 abbrev pub covers : Binding → Binding → Bool
 covers All scope = true
 covers (To place) (To other) = place.0 == other.0
@@ -33,7 +33,7 @@ covers (To place) All = false
 abbrev pub is_found_alive : Side → Key → Binding → Clock → State → Bool
 is_found_alive side key scope clock state = is_found side key scope state && lives clock state
 
--- the number of the state of least number that is found
+-- the number of the found state with the least number
 abbrev pub number_at : Side → Key → Binding → List State → Option StateNumber
 number_at side key scope states = option_map (λ state. state.number) (at side key scope states)
 

@@ -24,6 +24,6 @@ rest_of key = beside key.protocol.0 (ports key.outside.port.0 key.inside.port.0)
 abbrev pub folded : ℕ → ℕ
 folded spread = low (spread + spread / 4294967296)
 
--- the highest 32 bits of two products, the second of which takes the first one in
+-- the highest 32 bits of the second of two products; the first one is a part of it
 unfoldable pub hash_of : Key → Hash
 hash_of key = record { 0 = low (low (folded (low (addresses_of key * 11400714819323198485)) + rest_of key) * 15111065706836454659) / 4294967296 }

@@ -1,4 +1,4 @@
--- States at their places, what indexes of their keys hold, and how many of them each rule made.
+-- States at their places, the entries in indexes of their keys, and how many states each rule made.
 use Rattle.std.specs.Prelude.{◌≡◌, ◌<◌, ℕ, ◌+◌, Bool, true, false, if◌then◌else◌, List, [], ◌∷◌, map, get_or, Option, Some, None}
 use Rattle.std.specs.List.{Contains, list_any}
 use Rattle.pfr_index.specs.Index.{Entry, once, places}
@@ -19,7 +19,7 @@ use Rattle.pfr_states.specs.States.{count_of_rule, have_own_keys, is_same_key, k
 abbrev pub states_of : List (Placed Stored) → List State
 states_of all = map (λ placed. placed.value.state) all
 
--- whether the state of one of them passes a test
+-- whether there is a state, and it passes a test
 abbrev pub passes : (State → Bool) → Option (Placed Stored) → Bool
 passes test None = false
 passes test (Some placed) = test placed.value.state
@@ -28,7 +28,7 @@ passes test (Some placed) = test placed.value.state
 abbrev pub passes_at : (State → Bool) → Place → List (Placed Stored) → Bool
 passes_at test place all = passes test (at place all)
 
--- the place of a state that passes a test; none if no state does
+-- the place of a state that passes a test, or None if no state does
 abbrev pub IsPlaceOf : (State → Bool) → List (Placed Stored) → Option Place → Type 0
 IsPlaceOf test all None = list_any test (states_of all) ≡ false
 IsPlaceOf test all (Some place) = passes_at test place all ≡ true
@@ -37,15 +37,15 @@ IsPlaceOf test all (Some place) = passes_at test place all ≡ true
 abbrev pub Asks : Side → Key → (State → Bool) → Type 0
 Asks side key test = (state : State) → test state ≡ true → is_same_key (key_on side state) key ≡ true
 
--- what is answered for a place is whether its state passes a test
+-- the answer for a place is whether its state passes a test
 abbrev pub Decides : (Place → Bool → Type 0) → (State → Bool) → List (Placed Stored) → Type 0
 Decides answers test all = (place : Place) (answer : Bool) → answers place answer → answer ≡ passes_at test place all
 
--- the place of a state that passes a test, whatever test asks for the key and decides the answers
+-- the place of a state that passes a test, for each test that asks for the key and decides the answers
 abbrev pub IsPlaceBy : Side → Key → (Place → Bool → Type 0) → List (Placed Stored) → Option Place → Type 0
 IsPlaceBy side key answers all found = (test : State → Bool) → Asks side key test → Decides answers test all → IsPlaceOf test all found
 
--- the number of the state of one of them, if it passes a test
+-- the number of a state, if it passes a test
 abbrev pub number_if : (State → Bool) → Option (Placed Stored) → Option StateNumber
 number_if test None = None
 number_if test (Some placed) = if test placed.value.state then Some placed.value.state.number else None
@@ -59,7 +59,7 @@ number_alive side key scope clock place all = number_if (is_found_alive side key
 abbrev pub entry_of : Side → Placed Stored → Entry
 entry_of side placed = record { hash = hash_of (key_on side placed.value.state); place = placed.place }
 
--- what all weigh together
+-- the sum of all weights
 abbrev pub total : (Placed Stored → ℕ) → List (Placed Stored) → ℕ
 total weight [] = 0
 total weight (placed ∷ all) = weight placed + total weight all
@@ -79,11 +79,11 @@ pub record IsLike (old new : State) : Type 0 where
   pub rule : old.rules.filter ≡ new.rules.filter
   pub binding : old.rules.binding ≡ new.rules.binding
 
--- each stands under its own number
+-- each state stands under its own number
 abbrev pub AreNumbered : List (Placed Stored) → Type 0
 AreNumbered all = (placed : Placed Stored) → Contains all placed → placed.number ≡ placed.value.state.number.0
 
--- states under their own numbers, each at a place of its own, no two of which share a key
+-- states under their own numbers, each at a place of its own; no two of them share a key
 pub record AreStates (all : List (Placed Stored)) : Type 0 where
   pub by_number : AreNumbered all
   pub in_order : rise all ≡ true
@@ -95,7 +95,7 @@ pub record AreStates (all : List (Placed Stored)) : Type 0 where
 abbrev pub AreCounted : List ℕ → List (Placed Stored) → Type 0
 AreCounted counts all = (rule : ℕ) → get_or counts rule 0 ≡ count_of_rule rule (states_of all)
 
--- indexes have the place of each by its keys, and nothing else; they are counted by their filter rules
+-- the indexes have the place of each state by its keys, and nothing else; the states are counted by their filter rules
 pub record AreKeyed (all : List (Placed Stored)) (wire stack : Entry → ℕ) (counts : List ℕ) : Type 0 where
   pub states : AreStates all
   pub by_wire : (entry : Entry) → wire entry ≡ times_on Wire all entry

@@ -1,4 +1,4 @@
--- Words of the laws: the answer to which state is due first, what is left where that one is taken out, and the room of rules.
+-- Words of the laws: which state is due first, what is left if it is taken out, and the room of rules.
 use Rattle.std.specs.Prelude.{◌≡◌, ℕ, suc, List, ◌∷◌, ◌++◌, length, Option, Some, None, true, false}
 use Rattle.std.specs.List.{Contains, filter, list_any}
 use Rattle.pfr_net.specs.declared.interface.Binding.TheVariants.{To}
@@ -21,14 +21,14 @@ pub record IsFirstDue (clock : Clock) (states : List State) (first : State) : Ty
   -- no other one whose deadline has come goes before it
   pub is_first : (other : State) → Contains states other → lives clock other ≡ false → goes_before other first ≡ false
 
--- the first of the states that are due; none where no deadline has come
+-- the first of the states that are due, or None if no deadline has come
 abbrev pub AnswersDue : Clock → List State → Option State → Type 0
 AnswersDue clock states None = (state : State) → Contains states state → lives clock state ≡ true
 AnswersDue clock states (Some first) = IsFirstDue clock states first
 
 -- ---- one state after the other
 
--- what is due first is the first of all that are due, and the others are those that are due without it
+-- the state that is due is the first of all that are due; the others are those that are due without it
 abbrev pub DueGoesFirst : Type 0
 DueGoesFirst =
     (states : List State) (clock : Clock) (state : State)
@@ -36,7 +36,7 @@ DueGoesFirst =
     → due clock states ≡ Some state
     → all_due clock states ≡ state ∷ all_due clock (with_change (Removed state.number) states)
 
--- a purge leaves the same, whether it was taken out before or not
+-- a purge leaves the same, whether the state was taken out before or not
 abbrev pub PurgeLeavesTheSame : Type 0
 PurgeLeavesTheSame =
     (states : List State) (clock : Clock) (state : State)
@@ -52,7 +52,7 @@ OneStateLess =
     → due clock states ≡ Some state
     → suc (length (with_change (Removed state.number) states)) ≡ length states
 
--- a table from which a state is taken out is a table
+-- a table without one of its states is a table
 abbrev pub RemovalLeavesATable : Type 0
 RemovalLeavesATable =
     (table : StateTable) (number : StateNumber)
@@ -61,7 +61,7 @@ RemovalLeavesATable =
 
 -- ---- bindings
 
--- a look-up for an interface is answered by the states that are bound to it: those bound elsewhere say nothing of it
+-- a look-up for an interface is answered by the states that are bound to it: states bound elsewhere don't matter
 abbrev pub BoundElsewhereSayNothing : Type 0
 BoundElsewhereSayNothing =
     (side : Side) (key : Key) (place : InterfacePlace) (states : List State)
@@ -69,14 +69,14 @@ BoundElsewhereSayNothing =
 
 -- ---- the room of a rule
 
--- states of other rules change nothing of it
+-- states of other rules don't matter to it
 abbrev pub OtherRulesSayNothing : Type 0
 OtherRulesSayNothing =
     (rule most : ℕ) (states more : List State)
     → list_any (is_of_rule rule) more ≡ false
     → has_rule_room rule most (states ++ more) ≡ has_rule_room rule most states
 
--- where a rule has room, it has room after a purge
+-- if a rule has room, it has room after a purge
 abbrev pub PurgeLeavesRoom : Type 0
 PurgeLeavesRoom =
     (rule most : ℕ) (states : List State) (clock : Clock)

@@ -1,15 +1,15 @@
--- How many states the filter rules made, by the numbers of the rules.
+-- How many states each filter rule made, by the rule's number.
 use Rattle.std.specs.Prelude.{ℕ, ◌<◌, ◌&&◌, if◌then◌else◌, List, length, Option, IfSome}
 use Rattle.pfr_net.specs.declared.rule_number.RuleNumber.{RuleNumber}
 use Rattle.pfr_track.specs.declared.state.State.{State}
 use Rattle.pfr_track.specs.declared.time.Clock.{Clock}
 use Rattle.pfr_states.specs.States.{is_of_rule, lives, names_rule}
 
--- what a state of a rule, or of none, counts for the rule of a number
+-- 1 if the named rule has this number, else 0
 abbrev pub counts_for : ℕ → Option RuleNumber → ℕ
 counts_for rule named = if names_rule rule named then 1 else 0
 
--- what a state counts for the rule of a number once those are gone whose deadline has come
+-- 1 for a state of the rule with this number whose deadline hasn't come, else 0
 abbrev pub left_of_rule : ℕ → Clock → State → ℕ
 left_of_rule rule clock state = if lives clock state && is_of_rule rule state then 1 else 0
 

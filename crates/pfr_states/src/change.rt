@@ -1,4 +1,4 @@
-//! What is asked of a table, and what is done to it.
+//! Questions to a table, and changes of it.
 ghost use Rattle.std.specs.Prelude.{◌≡◌};
 
 use pfr_track::{Clock, State, StateNumber};
@@ -7,7 +7,8 @@ use std::marker::Model;
 use std::snapshot::Snapshot;
 use thiserror::Error;
 
-/// The sides of the firewall on which packets are looked up: those that come in on the wire, those that go out on the stack.
+/// The sides of the firewall on which packets are looked up: packets that come in on the wire, packets that go out on
+/// the stack.
 #[derive(Clone, Copy, Debug, PartialEq, Eq, Hash)]
 pub enum Side {
     Wire,
@@ -21,7 +22,7 @@ pub enum TableChange {
     Made(State),
     /// A state as a packet leaves it.
     Touched(State),
-    /// The state of this number is no more.
+    /// The state with this number is no more.
     Removed(StateNumber),
 }
 
@@ -30,11 +31,11 @@ pub enum TableChange {
 pub enum Change {
     /// The states whose deadline has come at this clock go.
     Purge(Clock),
-    /// The table takes this over.
+    /// The table makes this change.
     Apply(TableChange),
 }
 
-/// A change that the proofs alone know, and see as it is. A running program has one byte for it: a list of what has no size at all
+/// A change that the proofs alone see. A running program has one byte for it, as a list of elements without a size
 /// can't be gone through.
 #[derive(Drop)]
 pub struct KnownChange {
@@ -71,13 +72,13 @@ impl KnownChange {
     }
 }
 
-/// Why a table doesn't take a change.
+/// Why a table refuses a change.
 #[derive(Clone, Copy, Debug, PartialEq, Eq, Error)]
 pub enum TableError {
     /// Another state has one of the state's keys, on an interface to which both are bound.
     #[error("key taken")]
     KeyTaken,
-    /// There are as many states as there may be.
+    /// The table has as many states as its limit allows.
     #[error("full")]
     Full,
     #[error("no memory")]

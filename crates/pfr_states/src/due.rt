@@ -1,4 +1,4 @@
-//! Which of the states that wait by deadlines is due first, and which are of a rule.
+//! Which of the states that wait by deadlines is due first, and which of them a filter rule made.
 ghost use Rattle.std.specs.Prelude.{◌≡◌};
 ghost use Rattle.std.specs.Option.{option_copied};
 ghost use Rattle.pfr_states.specs.Awaited as awaited;
@@ -10,7 +10,7 @@ use crate::rule_counts::names_rule;
 use pfr_deadlines::Wait;
 use pfr_track::{Clock, RuleNumber, State};
 
-/// The state that waits by just this deadline, where its own has come.
+/// The state that waits by exactly this deadline, if its own has come.
 pub(crate) fn due_by(keyed: &Keyed, wait: Wait, clock: Clock) -> Option<&State>
     ensures { option_copied result ≡ awaited.due_by clock keyed.now wait }
 {
@@ -22,7 +22,7 @@ pub(crate) fn due_by(keyed: &Keyed, wait: Wait, clock: Clock) -> Option<&State>
     }
 }
 
-/// Whether the state that waits by just this deadline is one of a filter rule, and its own has come.
+/// Whether the state that waits by exactly this deadline was made by filter rule `rule`, and its own deadline has come.
 pub(crate) fn is_rule_due_by(keyed: &Keyed, wait: Wait, rule: RuleNumber, clock: Clock) -> bool
     ensures { result ≡ awaited.is_some_of_rule rule.0 (awaited.due_by clock keyed.now wait) }
 {
@@ -32,14 +32,14 @@ pub(crate) fn is_rule_due_by(keyed: &Keyed, wait: Wait, rule: RuleNumber, clock:
     }
 }
 
-/// 1 for a state of a filter rule whose deadline hasn't come, and else 0.
+/// 1 for a state of filter rule `rule` whose deadline hasn't come, else 0.
 pub(crate) fn left_of_rule(state: &State, rule: RuleNumber, clock: Clock) -> usize
     ensures { result ≡ left_of_rule rule.0 clock state.now }
 {
     usize::from(!state.deadline.has_come(clock) && names_rule(rule, state.rules.filter))
 }
 
-/// The one of two states that is due first.
+/// Of two states the one that is due first.
 pub(crate) fn sooner<'a>(first: Option<&'a State>, other: Option<&'a State>) -> Option<&'a State>
     ensures { option_copied result ≡ awaited.sooner (option_copied first.entry) (option_copied other.entry) }
 {
@@ -56,7 +56,7 @@ pub(crate) fn sooner<'a>(first: Option<&'a State>, other: Option<&'a State>) -> 
     }
 }
 
-/// Whether a state is due before another one: by deadline, and of one deadline by number.
+/// Whether a state is due before another one: by deadline, and if these are equal by number.
 fn goes_before(first: &State, second: &State) -> bool
     ensures { result ≡ spec.goes_before first.now second.now }
 {

@@ -1,4 +1,4 @@
-//! States in the order of their numbers, which are found by their keys and deadlines as well.
+//! States in the order of their numbers, which are also found by their keys and deadlines.
 ghost use Rattle.std.specs.Prelude.{◌≡◌, ◌<◌, ◌&&◌, ◌||◌, not, true, false, [], length, Some, None, IfOk, OnOk, OnErr};
 ghost use Rattle.std.specs.List.{Contains, filter, list_any};
 ghost use Rattle.std.specs.Option.{option_copied, option_map};
@@ -20,10 +20,11 @@ use pfr_track::{Binding, Clock, Key, RuleNumber, State, StateNumber};
 use std::alloc::{AllocError, Global};
 use std::marker::Model;
 
-/// States by their numbers, no two of which share a key on an interface. Contracts see the list of states by rising number.
+/// States by their numbers, no two of which share a key on an interface. Contracts see the list of states by rising
+/// number.
 ///
-/// Each state waits by a deadline that isn't later than its own. Where its own moves later it stays there until that
-/// deadline comes up, and then waits by its own. So a deadline may be there by which no state waits any more.
+/// Each state waits by a deadline that isn't later than its own. If its own moves later, the state stays at the old one
+/// until that comes, and then waits by its own. So there may be a deadline by which no state waits any more.
 #[derive(Drop)]
 pub(crate) struct IndexedStates {
     keyed: Keyed,
@@ -71,14 +72,14 @@ impl IndexedStates {
         }
     }
 
-    /// How many states there are.
+    /// The number of states.
     pub(crate) fn len(&self) -> usize
         ensures { result ≡ length self.now }
     {
         self.keyed.len()
     }
 
-    /// The state of a number.
+    /// The state with a number.
     pub(crate) fn get(&self, number: StateNumber) -> Option<&State>
         ensures state { option_copied result ≡ spec.state_of number self.now }
         ensures in_order { spec.rise self.now ≡ true }
@@ -89,7 +90,7 @@ impl IndexedStates {
         }
     }
 
-    /// The states with their places, which say where a state may stand.
+    /// The states with their places, for hints of a state's place.
     #[inline]
     pub(crate) fn keyed(&self) -> &Keyed
         ensures { states_of result.now ≡ self.now }
@@ -97,8 +98,8 @@ impl IndexedStates {
         &self.keyed
     }
 
-    /// A state with a key on a side that is bound to an interface of a scope, with its place; any of them if there are several.
-    /// If a place is named, it is looked for there first.
+    /// A state with a key on a side that is bound to an interface of a scope, with its place; any of them if there are
+    /// several. If a place is named, the state is looked for there first.
     #[inline(always)]
     pub(crate) fn find(
         &self,
@@ -122,7 +123,7 @@ impl IndexedStates {
         }
     }
 
-    /// The state of least number among all that are found at a clock.
+    /// The state with the least number among all that are found at a clock.
     #[cold]
     pub(crate) fn find_least(
         &self,
@@ -144,17 +145,18 @@ impl IndexedStates {
         }
     }
 
-    /// Of the states whose deadline has come the one with the least deadline; of those the one with the least number.
+    /// Of the states whose deadline has come the one with the least deadline; of equal deadlines the one with the least
+    /// number.
     ///
-    /// It is found at once where the deadlines have been brought up to the clock and the first by which a state waits is its
-    /// own, as [`IndexedStates::settle`] leaves it, and else by a look at all deadlines that have come.
-    // Mostly nothing is due, which is found out in a few steps. A call would clear the room for a state first.
+    /// It is found at once if the deadlines have been brought up to the clock and the first one by which a state waits
+    /// is the state's own, as [`IndexedStates::settle`] leaves them. Else all deadlines that have come are looked at.
+    // Mostly nothing is due, which takes a few steps to find. A call would clear the room for a state first.
     #[inline(always)]
     pub(crate) fn due(&self, clock: Clock) -> Option<State>
         ensures state { result ≡ spec.due clock self.now }
         ensures in_order { spec.rise self.now ≡ true }
     {
-        // the places' numbers rise, and no two are one
+        // the places' numbers rise, and no two are the same
         let _ = self.keyed.len();
         let Some(first) = self.deadlines.first() else {
             if self.deadlines.are_ahead_of(clock) {
@@ -179,7 +181,7 @@ impl IndexedStates {
         ensures state { result ≡ spec.due clock self.now }
         ensures in_order { spec.rise self.now ≡ true }
     {
-        // the places' numbers rise, and no two are one
+        // the places' numbers rise, and no two are the same
         let _ = self.keyed.len();
         let keyed = &self.keyed;
         let first = self.deadlines.fold_come(
@@ -192,9 +194,10 @@ impl IndexedStates {
         first.copied()
     }
 
-    /// Whether fewer than `most` states of a filter rule are there, without those whose deadline has come.
+    /// Whether there are fewer than `most` states of a filter rule, without those whose deadline has come.
     ///
-    /// The count of the rule's states mostly decides. A rule that has just as many asks the deadlines that have come.
+    /// Mostly the count of the rule's states decides. If the rule has `most` states or more, the deadlines that have
+    /// come are looked at.
     #[inline]
     #[tactic(auto, unfolding(crate::specs::States::has_rule_room))]
     pub(crate) fn rule_room(&self, rule: RuleNumber, most: u32, clock: Clock) -> bool
@@ -214,11 +217,11 @@ impl IndexedStates {
         self.count_left(rule, clock) < most
     }
 
-    /// Whether the deadline of a filter rule's state has come, by a look at all deadlines that have come.
+    /// Whether the deadline of a state of filter rule `rule` has come, by a look at all deadlines that have come.
     fn is_rule_due(&self, rule: RuleNumber, clock: Clock) -> bool
         ensures { result ≡ list_any (λ state. not (spec.lives clock state)) (filter (spec.is_of_rule rule.0) self.now) }
     {
-        // no two places are one
+        // no two places are the same
         let _ = self.keyed.len();
         let keyed = &self.keyed;
         self.deadlines.fold_come(
@@ -230,8 +233,8 @@ impl IndexedStates {
         )
     }
 
-    /// How many states of a filter rule are there, without those whose deadline has come, by a look at all states. A rule
-    /// has more states than it may only if a caller names another limit than before.
+    /// The number of states of a filter rule, without those whose deadline has come, by a look at all states. A rule
+    /// has more states than its limit only if a caller names another limit than before.
     #[cold]
     fn count_left(&self, rule: RuleNumber, clock: Clock) -> usize
         ensures { result ≡ spec.count_of_rule rule.0 (spec.purged clock self.now) }
@@ -247,8 +250,8 @@ impl IndexedStates {
         count
     }
 
-    /// Settles the first deadline where it has come and isn't a state's own: one by which no state waits goes, and a state
-    /// whose own has moved waits by that. It says whether it has.
+    /// Settles the first deadline if it has come and isn't a state's own. A deadline by which no state waits is
+    /// dropped; a state whose own deadline has moved waits by that. Says whether it has settled one.
     fn settle_first(&mut self, clock: Clock) -> bool
         ensures { self.new ≡ self.old }
     {
@@ -289,7 +292,7 @@ impl IndexedStates {
         }
     }
 
-    /// The state of the least number.
+    /// The state with the least number.
     pub(crate) fn first(&self) -> Option<State>
         ensures { result ≡ spec.first self.now }
     {
@@ -299,7 +302,7 @@ impl IndexedStates {
         }
     }
 
-    /// The state of the least number above this one.
+    /// The state with the least number above `number`.
     pub(crate) fn after(&self, number: StateNumber) -> Option<State>
         ensures { result ≡ spec.after number self.now }
     {
@@ -309,7 +312,7 @@ impl IndexedStates {
         }
     }
 
-    /// Whether a state is found.
+    /// Whether there is a state with a key on a side that is bound to an interface of a scope.
     fn is_found(&self, side: Side, key: &Key, scope: Binding) -> bool
         ensures { result ≡ list_any (spec.is_found side key.now scope) self.now }
     {
@@ -325,7 +328,7 @@ impl IndexedStates {
             || self.is_found(Side::Stack, &state.stack, scope)
     }
 
-    /// Whether a state of another number than this one is found.
+    /// Whether there is such a state with another number than `number`.
     fn is_another_found(&self, number: StateNumber, side: Side, key: &Key, scope: Binding) -> bool
         ensures { result ≡ list_any (index.is_another number side key.now scope) self.now }
     {
@@ -341,7 +344,7 @@ impl IndexedStates {
             || self.is_another_found(state.number, Side::Stack, &state.stack, scope)
     }
 
-    /// Adds a state of a new number with keys that no other one has. Where memory is refused nothing changes.
+    /// Adds a state with a new number, and with keys that no other state has. If memory is refused, nothing changes.
     fn add(&mut self, state: &State) -> Result<(), AllocError>
         requires number { list_any (spec.is_number state.now.number) self.old ≡ false }
         requires keys { list_any (spec.shares_key state.now) self.old ≡ false }
@@ -354,8 +357,8 @@ impl IndexedStates {
         Ok(())
     }
 
-    /// Puts a state, whose keys none of another number has, in the place of the one of its number, with other keys or not;
-    /// where there is none, nothing changes. Where memory is refused nothing changes.
+    /// Replaces the state with the same number; the keys may change, and no other state has the new ones. If there is
+    /// no state with the number, or if memory is refused, nothing changes.
     pub(crate) fn replace(&mut self, state: &State) -> Result<(), AllocError>
         requires { spec.another_shares state.now self.old ≡ false }
         ensures done { OnOk result (self.new ≡ spec.with_touched state.now self.old) }
@@ -381,8 +384,8 @@ impl IndexedStates {
         Ok(())
     }
 
-    /// Puts a state, whose keys no other one has, in its place by number; one of the same number goes. Where memory is
-    /// refused nothing changes.
+    /// Puts a state, whose keys no other state has, in its place by number; a state with the same number is replaced.
+    /// If memory is refused, nothing changes.
     pub(crate) fn put(&mut self, state: &State) -> Result<(), AllocError>
         requires { list_any (spec.shares_key state.now) self.old ≡ false }
         ensures done { OnOk result (self.new ≡ spec.with_state state.now self.old) }
@@ -394,8 +397,8 @@ impl IndexedStates {
         }
     }
 
-    /// Writes a state over the one at a place if that has its number, its keys, its filter rule and its binding, and says
-    /// whether it did. If memory is refused nothing changes.
+    /// Writes a state over the one at a place if that has its number, its keys, its filter rule and its binding, and
+    /// says whether it did. If memory is refused nothing changes.
     #[inline]
     pub(crate) fn renew(&mut self, state: &State, place: Place) -> Result<bool, AllocError>
         ensures done { IfOk result (λ is_done. is_done ≡ true → self.new ≡ spec.with_touched state.now self.old) }
@@ -427,14 +430,14 @@ impl IndexedStates {
         Ok(true)
     }
 
-    /// Takes the state of a number out, if there is one.
+    /// Takes the state with a number out, if there is one.
     pub(crate) fn remove(&mut self, number: StateNumber)
         ensures { self.new ≡ filter (λ state. not (spec.is_number number state)) self.old }
     {
         self.keyed.remove(number);
     }
 
-    /// What is due first, behind a settling.
+    /// The state that is due first, once the deadlines are settled.
     fn next_due(&mut self, clock: Clock) -> Option<State>
         ensures state { result ≡ spec.due clock self.old }
         ensures in_order { spec.rise self.old ≡ true }

@@ -27,8 +27,8 @@ fn ports(first: u16, second: u16) -> u32
     u32::from(first) * 65_536 + u32::from(second)
 }
 
-/// The hash of a key: its addresses and its ports are spread over the higher bits by products, and the highest are
-/// the hash.
+/// The hash of a key. Products spread its addresses and its ports over the higher bits, and the highest bits are the
+/// hash.
 #[inline]
 #[tactic(auto, unfolding(crate::specs::KeyHash::hash_of))]
 pub(crate) fn hash_of(key: &Key) -> Hash
@@ -38,7 +38,7 @@ pub(crate) fn hash_of(key: &Key) -> Hash
     let ports = ports(key.outside.port.0, key.inside.port.0);
     let rest = beside(u32::from(key.protocol.0), ports);
     let spread = addresses.wrapping_mul(GOLDEN);
-    // what only stands in the higher bits reaches all of the second product
+    // bits that stand only in the higher half reach all of the second product
     let folded = spread.wrapping_add(spread / 4_294_967_296);
     let joined = folded.wrapping_add(rest).wrapping_mul(OTHER);
     Hash((joined / 4_294_967_296) as u32)

@@ -22,7 +22,7 @@ use std::alloc::{AllocError, Global};
 use std::marker::Model;
 
 /// States under their numbers, no two of which share a key on an interface, each at a place of its own where it stays.
-/// Contracts see the list of them by rising number.
+/// Contracts see the list of states by rising number.
 #[derive(Drop)]
 pub(crate) struct Keyed {
     places: Places<Stored>,
@@ -63,7 +63,7 @@ fn is_found(state: &State, side: Side, key: &Key, scope: Binding) -> bool
     key_on(state, side) == key && state.rules.binding.meets(scope)
 }
 
-/// Whether the state at a place is found.
+/// Whether the state at a place has a key on a side and is bound to an interface of a scope.
 #[inline]
 fn is_found_at(places: &Places<Stored>, place: Place, side: Side, key: &Key, scope: Binding) -> bool
     ensures { result ≡ spec.passes_at (states.is_found side key.now scope) place places.now }
@@ -74,7 +74,7 @@ fn is_found_at(places: &Places<Stored>, place: Place, side: Side, key: &Key, sco
     }
 }
 
-/// Whether the state at a place is found and has another number.
+/// The same, for a state with another number than `number`.
 fn is_another_at(
     places: &Places<Stored>,
     place: Place,
@@ -93,7 +93,7 @@ fn is_another_at(
     }
 }
 
-/// The number of the state at a place, if it is found at a clock.
+/// The number of the state at a place, if that state is found at a clock.
 fn number_alive(
     places: &Places<Stored>,
     place: Place,
@@ -134,7 +134,7 @@ fn lesser(least: Option<StateNumber>, other: Option<StateNumber>) -> Option<Stat
     }
 }
 
-/// Whatever places are asked: their numbers rise, no two are one, and they are counted.
+/// Tells the proofs of the places: their numbers rise, no two are the same, and they are counted.
 fn are_places(places: &Places<Stored>)
     ensures in_order { slab.rise places.now ≡ true }
     ensures own_places { slab.have_own_places places.now ≡ true }
@@ -166,7 +166,7 @@ impl Keyed {
         }
     }
 
-    /// Which places stand under the hashes of the keys on a side.
+    /// The index of the places by the hashes of the keys on a side.
     #[inline]
     fn index_on(&self, side: Side) -> &Index
         ensures { (entry : Entry) → result.now.times entry ≡ spec.times_on side self.now entry }
@@ -177,7 +177,7 @@ impl Keyed {
         }
     }
 
-    /// How many there are.
+    /// The number of states.
     #[inline]
     pub(crate) fn len(&self) -> usize
         ensures count { result ≡ length self.now }
@@ -187,7 +187,7 @@ impl Keyed {
         self.places.len()
     }
 
-    /// How many of them a filter rule made.
+    /// The number of states that a filter rule made.
     #[inline]
     pub(crate) fn count_of_rule(&self, rule: RuleNumber) -> usize
         ensures { result ≡ states.count_of_rule rule.0 (spec.states_of self.now) }
@@ -204,25 +204,25 @@ impl Keyed {
         self.places.get(place)
     }
 
-    /// Where the state with a key on a side may stand.
+    /// A guess at the place of the state with a key on a side.
     #[inline]
     pub(crate) fn guess_at(&self, side: Side, key: &Key) -> Option<Guess> {
         self.index_on(side).guess(hash_of(key))
     }
 
-    /// A place under the hash of a key on a side of which a test says that it is the one; none if it says so of no such place.
+    /// A place under the hash of a key on a side for which a test answers true, or None if there is no such place.
     #[inline(always)]
     fn place_under<F: Fn(Place) -> bool>(&self, side: Side, key: &Key, is_it: F) -> Option<Place>
         requires { F.IsAlwaysCallable is_it }
         ensures place { spec.IsPlaceBy side key.now (F.post is_it) self.now result }
         ensures states { spec.AreStates self.now }
     {
-        // no two places are one
+        // no two places are the same
         let _ = self.len();
         self.index_on(side).find(hash_of(key), is_it)
     }
 
-    /// Where a state with a key on a side stands that is bound to an interface of a scope.
+    /// The place of a state with a key on a side that is bound to an interface of a scope.
     #[inline(always)]
     pub(crate) fn place_at(&self, side: Side, key: &Key, scope: Binding) -> Option<Place>
         ensures place { spec.IsPlaceOf (states.is_found side key.now scope) self.now result }
@@ -238,7 +238,7 @@ impl Keyed {
         )
     }
 
-    /// Where a state of another number with a key on a side stands that is bound to an interface of a scope.
+    /// The same, for a state with another number than `number`.
     pub(crate) fn another_at(
         &self,
         number: StateNumber,
@@ -259,8 +259,8 @@ impl Keyed {
         )
     }
 
-    /// The least number of the states with a key on a side that are bound to an interface of a scope and whose deadline hasn't
-    /// come, by a look at all states under the key's hash.
+    /// The least number of the states with a key on a side that are bound to an interface of a scope and whose deadline
+    /// hasn't come. All states under the key's hash are looked at.
     #[cold]
     pub(crate) fn least_at(
         &self,
@@ -284,7 +284,7 @@ impl Keyed {
         least
     }
 
-    /// What [`Keyed::place_at`] answers, with a look first at a place where it may stand.
+    /// What [`Keyed::place_at`] answers, but a place where the state may stand is looked at first.
     #[inline(always)]
     pub(crate) fn place_near(
         &self,
@@ -304,7 +304,7 @@ impl Keyed {
         self.place_at(side, key, scope)
     }
 
-    /// The same, with a look first where it is guessed to stand.
+    /// The same, but the guessed place is looked at first.
     #[inline]
     pub(crate) fn place_by(
         &self,
@@ -323,7 +323,7 @@ impl Keyed {
         self.place_near(side, key, scope, hint)
     }
 
-    /// Where the state of a number stands.
+    /// The place of the state with a number.
     pub(crate) fn place_of(&self, number: StateNumber) -> Option<Place>
         ensures place { result ≡ slab.place_of (slab.of_number number.0 self.now) }
         ensures states { spec.AreStates self.now }
@@ -331,7 +331,7 @@ impl Keyed {
         self.places.place_of(number.0)
     }
 
-    /// The state of a number.
+    /// The state with a number.
     pub(crate) fn of_number(&self, number: StateNumber) -> Option<&Stored>
         ensures stored { option_copied result ≡ slab.value_of (slab.of_number number.0 self.now) }
         ensures states { spec.AreStates self.now }
@@ -340,7 +340,7 @@ impl Keyed {
         self.get(place)
     }
 
-    /// The state that waits by just this.
+    /// The state that waits by exactly this deadline.
     pub(crate) fn kept_by(&self, wait: Wait) -> Option<&Stored>
         ensures stored { option_copied result ≡ awaited.kept_by wait (slab.value_of (slab.at wait.2 self.now)) }
         ensures states { spec.AreStates self.now }
@@ -353,21 +353,21 @@ impl Keyed {
         }
     }
 
-    /// Whether a state waits by just this.
+    /// Whether a state waits by exactly this deadline.
     pub(crate) fn keeps(&self, wait: Wait) -> bool
         ensures { result ≡ awaited.is_kept_at wait self.now }
     {
         self.kept_by(wait).is_some()
     }
 
-    /// The state of the least number.
+    /// The state with the least number.
     pub(crate) fn first(&self) -> Option<&Stored>
         ensures { option_copied result ≡ slab.value_of (slab.first self.now) }
     {
         self.places.first()
     }
 
-    /// The state of the least number above this one.
+    /// The state with the least number above `number`.
     pub(crate) fn after(&self, number: StateNumber) -> Option<&Stored>
         ensures stored { option_copied result ≡ slab.value_of (slab.after number.0 self.now) }
         ensures states { spec.AreStates self.now }
@@ -375,8 +375,8 @@ impl Keyed {
         self.places.after(number.0)
     }
 
-    /// Adds a state of a new number with keys that no other one has, which waits by its deadline. Where memory is refused
-    /// nothing changes.
+    /// Adds a state with a new number, and with keys that no other state has. It waits by its own deadline. If memory
+    /// is refused, nothing changes.
     pub(crate) fn add(&mut self, state: &State) -> Result<Place, AllocError>
         requires number { slab.of_number state.now.number.0 self.old ≡ None }
         requires keys { list_any (states.shares_key state.now) (spec.states_of self.old) ≡ false }
@@ -393,7 +393,7 @@ impl Keyed {
                 waits: state.deadline,
             },
         )?;
-        // whatever places are asked, they are in order
+        // whatever the places are, they are in order
         are_places(&self.places);
         self.wire.insert(hash_of(&state.wire), place);
         self.stack.insert(hash_of(&state.stack), place);
@@ -401,19 +401,19 @@ impl Keyed {
         Ok(place)
     }
 
-    /// Writes over the state at a place another one of its number, its keys, its filter rule and its binding.
+    /// Writes another state over the one at a place; its number, keys, filter rule and binding are the same.
     #[inline]
     pub(crate) fn write(&mut self, place: Place, stored: Stored)
         requires { IfSome (slab.at place self.old) (λ placed. spec.IsLike placed.value.state stored.state) }
         ensures { self.new ≡ slab.with_value place stored self.old }
     {
         self.places.set(place, stored);
-        // whatever places are asked, they are in order
+        // whatever the places are, they are in order
         are_places(&self.places);
     }
 
-    /// Writes over what stands at a place another state of its number, with keys that none of another number has. Where
-    /// memory is refused nothing changes.
+    /// Writes another state with the same number over the one at a place; no other state has its keys. If memory is
+    /// refused, nothing changes.
     pub(crate) fn replace(
         &mut self,
         place: Place,
@@ -433,13 +433,13 @@ impl Keyed {
         move_place(&mut self.wire, &from.wire, &to.wire, place);
         move_place(&mut self.stack, &from.stack, &to.stack, place);
         self.places.set(place, stored);
-        // whatever places are asked, they are in order
+        // whatever the places are, they are in order
         are_places(&self.places);
         self.counts.move_one(from.rules.filter, to.rules.filter);
         Ok(())
     }
 
-    /// Takes the state of a number out, if there is one.
+    /// Takes the state with a number out, if there is one.
     pub(crate) fn remove(&mut self, number: StateNumber)
         ensures states { self.new ≡ slab.without number.0 self.old }
         ensures by_number { spec.AreNumbered self.old }
@@ -457,7 +457,7 @@ impl Keyed {
         self.stack.remove(stack, place);
         self.counts.remove(rule);
         self.places.remove(number.0);
-        // whatever places are asked, they are in order
+        // whatever the places are, they are in order
         are_places(&self.places);
     }
 }

@@ -1,5 +1,5 @@
-//! The table of states: a finite map from number to state in which no two states that are bound to one interface share a key,
-//! and from which states go when their deadline comes.
+//! The table of states: a finite map from number to state. No two states that are bound to one interface share a key,
+//! and states go when their deadline comes.
 #![tactic(auto)]
 
 mod ahead;

@@ -53,7 +53,7 @@ pub(crate) fn is_like(first: &State, second: &State) -> bool
     first.number == second.number && have_same_keys(first, second) && have_same_rules(first, second)
 }
 
-/// Whether a binding has all interfaces of a scope: no other state than one with such a binding is found by the scope.
+/// Whether a binding has all interfaces of a scope. A state with such a binding is the only one that the scope finds.
 #[inline]
 pub(crate) fn covers(binding: Binding, scope: Binding) -> bool
     ensures { result ≡ spec.covers binding scope }

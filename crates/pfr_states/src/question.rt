@@ -1,4 +1,4 @@
-//! What the evaluation of a packet asks of a table of states.
+//! The questions of a packet's evaluation to a table of states.
 use crate::change::Side;
 use pfr_track::{Binding, Key, RuleNumber};
 
@@ -9,6 +9,6 @@ pub enum Question {
     At(Side, Key, Binding),
     /// Whether there is room for one more state.
     Room,
-    /// Whether there is room for one more state of a filter rule that may have this many.
+    /// Whether there is room for one more state of a filter rule, with this number as its limit.
     RuleRoom(RuleNumber, u32),
 }

@@ -1,4 +1,4 @@
-//! How many states the filter rules made.
+//! How many states each filter rule made.
 ghost use Rattle.std.specs.Prelude.{◌≡◌, ◌+◌, ◌-◌, ◌<◌, ℕ, [], length, get_or, slice_set, OnOk};
 ghost use Rattle.pfr_states.specs.RuleCounts.{HasCount, counts_for};
 ghost use Rattle.pfr_states.specs.States as states;
@@ -21,7 +21,7 @@ impl Model for RuleCounts {
     ghost view = { λ c. c.counts.items };
 }
 
-/// Whether this is the rule that is named, if one is.
+/// Whether a rule is named, and is `rule`.
 #[inline]
 pub(crate) fn names_rule(rule: RuleNumber, named: Option<RuleNumber>) -> bool
     ensures { result ≡ states.names_rule rule.0 named }
@@ -32,7 +32,7 @@ pub(crate) fn names_rule(rule: RuleNumber, named: Option<RuleNumber>) -> bool
     }
 }
 
-/// Makes the counts longer, so that a rule has one. Where memory is refused they stay as they are.
+/// Makes the counts longer, so that a rule has one. If memory is refused, they stay as they are.
 #[cold]
 fn grow(counts: &mut Vec<usize>, rule: RuleNumber) -> Result<(), AllocError>
     requires { length counts.old.items < rule.0 + 1 }
@@ -45,7 +45,7 @@ fn grow(counts: &mut Vec<usize>, rule: RuleNumber) -> Result<(), AllocError>
     }
 }
 
-/// Counts one more at the place of a rule.
+/// Adds one to the count of a rule.
 #[inline]
 fn add_one(counts: &mut Vec<usize>, rule: RuleNumber)
     requires room { rule.0 < length counts.old.items }
@@ -76,7 +76,7 @@ impl RuleCounts {
         }
     }
 
-    /// Sees to it that a rule has a count. Where memory is refused nothing changes.
+    /// Makes sure that a rule has a count. If memory is refused, nothing changes.
     #[inline]
     pub(crate) fn reserve(&mut self, rule: Option<RuleNumber>) -> Result<(), AllocError>
         ensures same { (number : ℕ) → get_or self.new number 0 ≡ get_or self.old number 0 }
@@ -116,7 +116,7 @@ impl RuleCounts {
         }
     }
 
-    /// Counts a state of a rule for another one.
+    /// Moves one state from the count of a rule to that of another one.
     pub(crate) fn move_one(&mut self, from: Option<RuleNumber>, to: Option<RuleNumber>)
         requires room { HasCount to self.old }
         requires few { (number : ℕ) → counts_for number to + (get_or self.old number 0 - counts_for number from) < 18446744073709551616 }

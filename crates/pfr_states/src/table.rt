@@ -16,8 +16,8 @@ use pfr_track::{Binding, Clock, Key, RuleNumber, State, StateNumber};
 use std::alloc::Global;
 use std::marker::Model;
 
-/// States by their numbers, at most as many as a limit says. No two that are bound to one interface share a key. Contracts see
-/// the list of states by rising number, and the limit.
+/// States by their numbers, at most `limit` of them. No two states that are bound to one interface share a key.
+/// Contracts see the list of states by rising number, and the limit.
 #[derive(Drop)]
 pub struct Table {
     states: IndexedStates,
@@ -35,7 +35,7 @@ impl Model for Table {
 }
 
 impl Table {
-    /// A table without states, for so many. It takes memory only once states are made.
+    /// An empty table for at most `limit` states. It takes memory only once states are made.
     pub fn new(alloc: Global, limit: usize) -> Table
         ensures { result ≡ spec.empty limit }
     {
@@ -45,8 +45,8 @@ impl Table {
         }
     }
 
-    /// How many states there are; those whose deadline has come are counted until they are purged. Their numbers rise, no
-    /// two share a key on an interface, and they are at most as many as the limit says.
+    /// The number of states; those whose deadline has come count until they are purged. The numbers of the states rise,
+    /// no two states share a key on an interface, and there are no more than the limit.
     pub fn len(&self) -> usize
         ensures count { result ≡ length self.now.states }
         ensures table { spec.IsTable self.now }
@@ -54,8 +54,8 @@ impl Table {
         self.states.len()
     }
 
-    /// The state with this key on a side that is bound to an interface of the scope; of several the one of least number. One
-    /// whose deadline has come isn't answered, purged or not.
+    /// The state with this key on a side that is bound to an interface of the scope; of several the one with the least
+    /// number. A state whose deadline has come isn't answered, purged or not.
     // A call would clear the room for a state first, and copy it.
     #[inline(always)]
     pub fn at(&self, side: Side, key: &Key, scope: Binding, clock: Clock) -> Option<State>
@@ -67,11 +67,11 @@ impl Table {
         }
     }
 
-    /// What [`Table::at`] answers, where it stands: a state is large. If a place is named, as by [`Table::place_by`], the state
-    /// is looked for there first, which saves a search; nothing rests on it that it stands there.
+    /// What [`Table::at`] answers, as a reference, because a state is large. If a place is named, as by
+    /// [`Table::place_by`], the state is looked for there first, which saves a search. The place is a mere hint.
     ///
-    /// Mostly one look is enough: a state that is found and is bound to all interfaces of the scope is the only one. Only if all
-    /// interfaces are asked for and the one that is found is bound to one of them may there be others.
+    /// Mostly one look is enough: a state that is found and is bound to all interfaces of the scope is the only one.
+    /// There may be others only if the scope is all interfaces and the state that is found is bound to one of them.
     #[inline(always)]
     pub fn find_near(
         &self,
@@ -98,15 +98,15 @@ impl Table {
         }
     }
 
-    /// Where the state with this key on a side may stand. Nothing rests on it: it is for [`Table::place_by`], and for a row of keys
-    /// asked first, so that none waits for the memory at which the one before looks.
+    /// A guess at the place of the state with this key on a side. It is a mere hint, for [`Table::place_by`]. If
+    /// several keys are asked first, none of them waits for the memory that the one before reads.
     #[inline]
     pub fn guess_at(&self, side: Side, key: &Key) -> Option<Guess> {
         self.states.keyed().guess_at(side, key)
     }
 
-    /// Where a state with this key on a side stands that is bound to an interface of the scope, if there is one, whether its
-    /// deadline has come or not: a hint for [`Table::find_near`]. It is looked for first where it is guessed to stand.
+    /// The place of a state with this key on a side that is bound to an interface of the scope, if there is one,
+    /// whether its deadline has come or not: a hint for [`Table::find_near`]. The guessed place is looked at first.
     #[inline]
     pub fn place_by(
         &self,
@@ -118,14 +118,14 @@ impl Table {
         self.states.keyed().place_by(side, key, scope, guess)
     }
 
-    /// Whether there is room for one more state once those are gone whose deadline has come.
+    /// Whether there is room for one more state once the states whose deadline has come are gone.
     pub fn room(&self, clock: Clock) -> bool
         ensures { result ≡ spec.has_room self.now.limit (spec.purged clock self.now.states) }
     {
         self.len() < self.limit || self.states.due(clock).is_some()
     }
 
-    /// Whether fewer than `most` states of a filter rule are there, without those whose deadline has come.
+    /// Whether there are fewer than `most` states of a filter rule, without those whose deadline has come.
     #[inline]
     pub fn rule_room(&self, rule: RuleNumber, most: u32, clock: Clock) -> bool
         ensures { result ≡ spec.has_rule_room rule.0 most (spec.purged clock self.now.states) }
@@ -133,7 +133,8 @@ impl Table {
         self.states.rule_room(rule, most, clock)
     }
 
-    /// Of the states whose deadline has come the one with the least deadline; of those the one with the least number.
+    /// Of the states whose deadline has come the one with the least deadline; of equal deadlines the one with the least
+    /// number.
     #[inline]
     pub fn due(&self, clock: Clock) -> Option<State>
         ensures { result ≡ spec.due clock self.now.states }
@@ -141,33 +142,33 @@ impl Table {
         self.states.due(clock)
     }
 
-    /// The state of the least number.
+    /// The state with the least number.
     pub fn first(&self) -> Option<State>
         ensures { result ≡ spec.first self.now.states }
     {
         self.states.first()
     }
 
-    /// The state of the least number above this one.
+    /// The state with the least number above `number`.
     pub fn after(&self, number: StateNumber) -> Option<State>
         ensures { result ≡ spec.after number self.now.states }
     {
         self.states.after(number)
     }
 
-    /// The state of a number.
+    /// The state with a number.
     pub fn get(&self, number: StateNumber) -> Option<State>
         ensures { result ≡ spec.state_of number self.now.states }
     {
         self.states.get(number).copied()
     }
 
-    /// Settles the deadlines that have come at a clock, so that [`Table::due`] and [`Table::room`] answer at once for this
-    /// clock and for those before it. The states stay as they are. It may take memory for deadlines that come up; where that is
-    /// refused, some aren't settled.
+    /// Settles the deadlines that have come at a clock, so that [`Table::due`] and [`Table::room`] answer at once for
+    /// this clock and for earlier ones. The states stay as they are. It may take memory for deadlines that come up; if
+    /// memory is refused, some aren't settled.
     ///
-    /// A state whose deadline moves later isn't looked for among the deadlines at once: it is looked at again once the
-    /// deadline comes by which it waited. Without settling at a clock `due` may have to look at all deadlines.
+    /// A state whose deadline moves later isn't moved among the deadlines at once: it is looked at again when the
+    /// deadline by which it waited comes. Without settling at a clock, `due` may have to look at all deadlines.
     pub fn settle(&mut self, clock: Clock)
         ensures { self.new ≡ self.old }
     {
@@ -182,7 +183,7 @@ impl Table {
         self.states.purge(clock);
     }
 
-    /// Takes a new state over.
+    /// Adds a new state.
     fn make(&mut self, state: &State) -> Result<(), TableError>
         ensures done { OnOk result (self.new.states ≡ spec.with_change (Made state.now) self.old.states) }
         ensures allowed { OnOk result (spec.refusal (Made state.now) self.old.limit self.old.states ≡ None) }
@@ -200,7 +201,7 @@ impl Table {
         Ok(())
     }
 
-    /// Takes a state over as a packet leaves it, with other keys than it had or not.
+    /// Puts a state in place of the one with its number, as a packet leaves it; its keys may have changed.
     fn move_state(&mut self, state: &State) -> Result<(), TableError>
         ensures done { OnOk result (self.new.states ≡ spec.with_change (Touched state.now) self.old.states) }
         ensures allowed { OnOk result (spec.refusal (Touched state.now) self.old.limit self.old.states ≡ None) }
@@ -215,7 +216,8 @@ impl Table {
         Ok(())
     }
 
-    /// Takes a state over as a packet leaves it. It may stand at a place that is named.
+    /// Puts a state in place of the one with its number, as a packet leaves it. It may stand at the place that is
+    /// named.
     fn touch(&mut self, state: &State, place: Option<Place>) -> Result<(), TableError>
         ensures done { OnOk result (self.new.states ≡ spec.with_change (Touched state.now) self.old.states) }
         ensures allowed { OnOk result (spec.refusal (Touched state.now) self.old.limit self.old.states ≡ None) }
@@ -238,7 +240,7 @@ impl Table {
         self.move_state(state)
     }
 
-    /// Takes the state of a number out.
+    /// Takes the state with a number out.
     fn remove(&mut self, number: StateNumber)
         ensures states { self.new.states ≡ spec.with_change (Removed number) self.old.states }
         ensures limit { self.new.limit ≡ self.old.limit }
@@ -246,10 +248,10 @@ impl Table {
         self.states.remove(number);
     }
 
-    /// Takes a change over. Where it is refused the table stays as it was: a key that another state has on an interface to which
-    /// both are bound is the first reason, too many states the second. States count until they are purged, whether their deadline has come or not. A made or
-    /// touched state may be refused memory. A removal is never refused; where no state has the number of a touched or removed
-    /// one, the table stays as it was.
+    /// Makes a change. If it is refused, the table stays as it was. The first reason is a key that another state has on
+    /// an interface to which both are bound; the second is too many states. States count until they are purged, whether
+    /// their deadline has come or not. A made or touched state may be refused memory. A removal is never refused. If no
+    /// state has the number of a touched or removed one, the table stays as it was.
     pub fn apply(&mut self, change: TableChange) -> Result<(), TableError>
         ensures done { OnOk result (self.new.states ≡ spec.with_change change self.old.states) }
         ensures allowed { OnOk result (spec.refusal change self.old.limit self.old.states ≡ None) }
@@ -261,8 +263,8 @@ impl Table {
         self.take_over(&change, None)
     }
 
-    /// What [`Table::apply`] does, with a change that stays where it is: a state is large. Where a place is named, a state that is
-    /// touched is looked for there, which saves a search; nothing rests on it that it stands there.
+    /// What [`Table::apply`] does, with a change by reference, because a state is large. If a place is named, a touched
+    /// state is looked for there, which saves a search. The place is a mere hint.
     pub fn take_over(
         &mut self,
         change: &TableChange,

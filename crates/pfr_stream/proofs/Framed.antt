@@ -150,7 +150,7 @@ taken_by_short : (s : Standing) (r : Result (Content × ℕ) SyncError) → take
 taken_by_short s (Ok x) is = absurd (taking_short (refuses x.0 s) (standing_after x.0 s) is)
 taken_by_short s (Err e) is = ap (λ (d : SyncError). Err d) (err_is e refusals.Short is)
 
--- bytes lack where a message that lacks them is to be taken
+-- if taking a message is refused as short, reading it is refused as short
 pub taken_short : (framing : Framing) (s : Standing) (bytes : List ℕ) → taken_at framing s bytes ≡ Err refusals.Short → framed_at framing bytes ≡ Err refusals.Short
 unfolding taken_at
 taken_short framing s bytes is = taken_by_short s (framed_at framing bytes) is

@@ -26,7 +26,7 @@ came_behind held now before left n count front gave = record {
   behind = sym (take-append-drop n (take (n + count) now)) ∙ rw (take-take n (n + count) now (omega arith), front, drop-take n count now) refl;
 }
 
--- a message may follow where some bytes are held
+-- a message may follow if some bytes are held
 pub may_follow : (held now : List ℕ) (count : ℕ) → ((held ≡ []) ⊎ (count < 2 ^ 40)) → now ≡ held → 0 < length now → count < 2 ^ 40
 may_follow held now count (inl none) same some = let nothing : length now ≡ 0 = ap length (same ∙ none) in absurd (omega arith)
 may_follow held now count (inr may) same some = may

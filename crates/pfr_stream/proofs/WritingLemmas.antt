@@ -83,7 +83,7 @@ module _ {S : Type 0} (told : S → Bool) (written : S → List ℕ) (failures :
   outcome_writes count standing (ending.Refused refusal) wrote = (standing, wrote)
   outcome_writes count standing ending.Failed wrote = (standing, wrote)
 
-  -- where they weren't written
+  -- if they weren't written
   pub stop_writes : (reading : Reading) (s : StandbyStop) → StopsWriting told written failures old new reading s → WritesLines told written old new (Err s)
   stop_writes reading (stop.Message number refusal) why = absurd why
   stop_writes reading (stop.Read count) why = absurd why

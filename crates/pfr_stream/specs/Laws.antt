@@ -29,8 +29,8 @@ FilesAreRead =
 abbrev pub SpellingsAreRead : Type 0
 SpellingsAreRead = (contents : List Content) → All Fits contents → AreWhole Bare (flat_map spelling contents) contents []
 
--- What an insertion says of an event's state fits its fields. It does for each state that the code has, where the names of the
--- interfaces fit (pfr_sync, `insertion_of`).
+-- What an insertion says of an event's state fits its fields. It does for each state that the code has, if the names of
+-- the interfaces fit (pfr_sync, `insertion_of`).
 abbrev pub IsSpelled : Origin → Event → Type 0
 IsSpelled origin event = insertion.fits (insertion_of origin event.clock event.state) ≡ true
 

@@ -29,11 +29,11 @@ pub record HasTaken (framing : Framing) (text left rest : List ℕ) (count : ℕ
 
 -- ---- why no further message is taken
 
--- the one at the front of these bytes is refused: it is no message, or the states that are held refuse it
+-- what stands at the front of these bytes is refused: it is no message, or the states that are held refuse it
 abbrev pub RefusedAt : Framing → Standing → List ℕ → SyncError → Type 0
 RefusedAt framing standing bytes refusal = (0 < length bytes) × (taken_at framing standing bytes ≡ Err refusal)
 
--- there is no whole one, and the source failed; or bytes stand behind 2^40 messages
+-- there is no whole message, and the source failed; or bytes stand behind 2^40 messages
 abbrev pub CanNotGoOn : Framing → (failures failures' count : ℕ) → List ℕ → Type 0
 CanNotGoOn framing failures failures' count rest =
     (Rose failures failures' × (framed_at framing rest ≡ Err refusals.Short))
@@ -45,7 +45,7 @@ IsOver framing failures failures' count standing rest left =
     (rest ++ left ≡ []) ⊎ (((refusal : SyncError) × RefusedAt framing standing (rest ++ left) refusal)
     ⊎ CanNotGoOn framing failures failures' count rest)
 
--- ---- outcomes, where W says what was written for the states that are held
+-- ---- outcomes; W says what was written for the states that are held
 
 -- all bytes are messages, and all were taken
 pub record AllTaken (framing : Framing) (text : List ℕ) (W : Standing → Type 0) (count : ℕ) : Type 0 where
@@ -53,7 +53,7 @@ pub record AllTaken (framing : Framing) (text : List ℕ) (W : Standing → Type
   pub taken : AreTaken framing text [] count standing
   pub wrote : W standing
 
--- those before a message were taken, and it is refused
+-- the messages before one were taken, and that one is refused
 pub record Refuses (framing : Framing) (text : List ℕ) (W : Standing → Type 0) (number : ℕ) (refusal : SyncError) : Type 0 where
   pub before : ℕ
   pub is_next : number ≡ before + 1
@@ -77,11 +77,12 @@ pub record StopsAfter (framing : Framing) (text left : List ℕ) (P : Standing �
 abbrev pub Wrote : {S : Type 0} → (told : S → Bool) → (written : S → List ℕ) → (old new : S) → Standing → Type 0
 Wrote told written old new standing = IsTrue (told old) → written new ≡ written old ++ lines standing
 
--- it grew by a beginning of them, which lacks at least the last byte
+-- the sink grew by a beginning of these lines, which lacks at least the last byte
 abbrev pub WrotePart : {S : Type 0} → (told : S → Bool) → (written : S → List ℕ) → (old new : S) → Standing → Type 0
 WrotePart told written old new standing = IsTrue (told old) → GrewByPart (written old) (written new) (lines standing)
 
--- if the source tells its bytes, they are this many messages, all were taken, and the lines of the states that are held were written
+-- if the source tells its bytes, they are `count` messages, all were taken, and the lines of the states held were
+-- written
 abbrev pub Ends : {R S : Type 0} → (tells : R → Bool) → (unread : R → List ℕ) → (told : S → Bool) → (written : S → List ℕ)
     → Framing → R → (sink sink' : S) → ℕ → Type 0
 Ends tells unread told written framing source sink sink' count =

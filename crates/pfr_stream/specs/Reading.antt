@@ -30,7 +30,7 @@ start framing = record { framing = framing; held = []; standing = []; count = 0 
 abbrev pub Took : Reading → (text left : List ℕ) → Type 0
 Took reading text left = HasTaken reading.framing text left reading.held reading.count reading.standing
 
--- whatever was taken before, it still is, and so is what came since
+-- if `old` says what was taken of a text, then `new` says what is taken of it now
 abbrev pub TakesOn : Reading → Reading → (before left : List ℕ) → Type 0
 TakesOn old new before left = (text : List ℕ) → Took old text before → Took new text left
 

@@ -12,7 +12,7 @@ abbrev pub number_at : ℕ → List ℕ → ℕ
 number_at place bytes = 256 * slice_index bytes place + slice_index bytes (place + 1)
 
 -- What is wrong first with the IPv4 header (RFC 791 section 3.1) before a message. It has 20 bytes, its protocol is 240, and its total
--- length counts it and the bytes that the message says it has. Its other bytes aren't asked.
+-- length counts it and the bytes that the message says it has. Its other bytes aren't checked.
 unfoldable pub header_refusal : List ℕ → Option SyncError
 header_refusal bytes =
     if nat_lt (length bytes) 24 then Some refusals.Short else
@@ -24,7 +24,7 @@ abbrev pub with_header : Result (Content × ℕ) SyncError → Result (Content �
 with_header (Ok found) = Ok (found.0, 20 + found.1)
 with_header (Err refusal) = Err refusal
 
--- the message behind a header that is refused or isn't
+-- the message behind a header, or the header's refusal, if it is refused
 abbrev pub behind_header : Option SyncError → Result (Content × ℕ) SyncError → Result (Content × ℕ) SyncError
 behind_header (Some refusal) message = Err refusal
 behind_header None message = with_header message

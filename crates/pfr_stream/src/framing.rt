@@ -26,7 +26,7 @@ fn number_at(place: usize, bytes: &[u8]) -> u16
     u16::from_be_bytes([bytes[place], bytes[place + 1]])
 }
 
-/// What is wrong first with the header before a message, of which at least the front is there.
+/// What is wrong first with the header before a message. If nothing is, the message's first four bytes are there too.
 #[tactic(auto, unfolding(crate::specs::Stream::header_refusal))]
 fn header_refusal(bytes: &[u8]) -> Option<SyncError>
     ensures refusal { result ≡ spec.header_refusal bytes.now }

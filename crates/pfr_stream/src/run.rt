@@ -68,9 +68,10 @@ fn run<R: Source, S: Sink>(
 /// Answers how many messages were taken.
 ///
 /// A stop says after how many messages it came. If a message is refused, or if the source fails, the lines are those of the states that
-/// are held before it. No line is written before reading has ended, and none if memory is refused. Messages that stand whole in the bytes
-/// that came are taken before the source is asked again, so that nothing depends on how it hands out its bytes; a source that failed isn't
-/// asked again. Beside the states, two buffers of 4096 bytes and one message are held in memory.
+/// are held before it. No line is written before reading has ended, and none if memory is refused. Messages that are
+/// whole in the bytes that came are taken before the source is read again, so nothing depends on how it hands out its
+/// bytes. A source that failed isn't read again. Beside the states, two buffers of 4096 bytes and one message are held
+/// in memory.
 pub fn standby<R: Source, S: Sink>(
     alloc: Global,
     source: &mut R,

@@ -2,7 +2,7 @@
 use pfr_messages::SyncError;
 use thiserror::Error;
 
-/// Why a run stopped. The number counts the messages that were taken, but for that of a message that is refused, which counts it too.
+/// Why a run stopped. The number counts the messages that were taken; that of `Message` counts the refused message too.
 #[derive(Clone, Copy, Debug, PartialEq, Eq, Drop, Error)]
 pub enum StandbyStop {
     /// This message, counted from 1, is refused, and not for want of memory. The states that were held before it were written.

@@ -75,7 +75,7 @@ plain_names_fit names =
 pub plain_names_from : (names made : List IfName) → made ≡ plain_names names → AllFit made
 plain_names_from names made is = rw is (plain_names_fit names)
 
--- so many names by their places, by recursion
+-- `n` names by their places, by recursion
 abbrev named : ℕ → List IfName → List IfName
 named zero names = []
 named (suc n) [] = if_name [] ∷ named n []

@@ -92,7 +92,7 @@ after_none origin entries e keeps none =
     let short : is_short origin e.clock (with_entry e entries) ≡ true = rw none (short_alone origin entries e keeps) in
     (rw (short, none) refl, rw short refl)
 
--- the messages where the last part is closed and another one begins
+-- the messages if the last part is closed and another one begins
 closes_part : (origin : Origin) (clock : Clock) (closed : List (List Event)) (last : List Event) (e : Event) → e.clock.0 ≡ clock.0
     → flat_map (message_of origin) (closed ++ last ∷ []) ++ over origin clock (e ∷ []) ≡ flat_map (message_of origin) closed ++ message_of origin last
 closes_part origin clock closed last e same =

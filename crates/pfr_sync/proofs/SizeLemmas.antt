@@ -41,7 +41,7 @@ length_section kind f size (e ∷ entries) each =
 abbrev pub IsNamed : Origin → QueuedState → Type 0
 IsNamed origin entry = length (name_at origin.interfaces entry.state.interface).bytes ≡ 16
 
--- so it is where each name is one as messages have it
+-- so it is if each name is one as messages have it
 pub all_named : (origin : Origin) (entries : List QueuedState) → AllFit origin.interfaces → All (IsNamed origin) entries
 all_named origin entries fit k d within =
     let place = (get_or entries k d).state.interface in

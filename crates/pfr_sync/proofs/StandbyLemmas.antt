@@ -57,7 +57,7 @@ has_told p n events (m ∷ numbers) =
       | inr other ↦ rw other refl
     ]
 
--- the entries that pass a test have the number where it is told of so
+-- the entries that pass a test have the number if what is told of it passes the test
 has_entries : (p : QueuedState → Bool) (n : ℕ) (events : List Event) → has n (map number_of (filter p (entries_of events))) ≡ passes p (told_at n events)
 has_entries p n events =
     has_told p n events (numbers_of events)

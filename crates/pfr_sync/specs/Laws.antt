@@ -173,7 +173,8 @@ pub record IsKeyAt (offset : ℕ) (key : Key) (bytes : List ℕ) : Type 0 where
   pub outside_port : field (offset + 32) 2 bytes ≡ to_be_bytes w16 key.outside.port.0
   pub inside_port : field (offset + 34) 2 bytes ≡ to_be_bytes w16 key.inside.port.0
 
--- the shift that an end of TCP offered: 0x80 and the shift, of which one above 14 counts as 14 (RFC 7323, section 2.3); 0 for none
+-- the shift that an end of TCP offered: 0x80 and the shift, which counts as 14 if it is above (RFC 7323, section 2.3);
+-- 0 for none
 abbrev pub offered : Option ℕ → ℕ
 offered None = 0
 offered (Some shift) = 0x80 + min shift 14
@@ -259,8 +260,8 @@ InsertionsNameTheState =
 abbrev pub origin_with : List IfName → (checksum : List ℕ) → (creator : ℕ) → Origin
 origin_with names checksum creator = record { interfaces = plain_names names; checksum = checksum; creator = creator }
 
--- An insertion names the interface that made the state: where a name stands at that interface's place, which is one of the first eight,
--- the record's name is this one, up to its first zero, with zeros behind it.
+-- An insertion names the interface that made the state: if a name stands at that interface's place, which is one of the
+-- first eight, the record's name is this one, up to its first zero, with zeros behind it.
 abbrev pub InsertionsNameTheInterface : Type 0
 InsertionsNameTheInterface =
     (names : List IfName) (checksum : List ℕ) (creator : ℕ) (clock : Clock) (state : State) (name : IfName)
@@ -282,7 +283,7 @@ abbrev pub is_new : ℕ → List Event → Bool
 is_new n [] = false
 is_new n (event ∷ events) = if is_of n event then is_made event else is_new n events
 
--- an event of a part, after which none of the same state comes there
+-- an event of a part, which has no later event of the same state
 pub record IsLastOfItsState (event : Event) (part : List Event) : Type 0 where
   pub before : List Event
   pub after : List Event

@@ -11,7 +11,7 @@ use Rattle.pfr_sync.specs.Events.{deletion_of, insertion_of, is_made, is_of, is_
 
 -- ---- what a part tells
 
--- a number among rising ones, once
+-- rising numbers with a further one among them, each once
 abbrev pub with_number : ℕ → List ℕ → List ℕ
 with_number n [] = n ∷ []
 with_number n (m ∷ numbers) =
@@ -93,7 +93,8 @@ with_event origin parts event =
     then record { closed = parts.closed; last = parts.last ++ event ∷ [] }
     else record { closed = parts.closed ++ parts.last ∷ []; last = event ∷ [] }
 
--- the parts of events: each ends before the first event of a later clock, or with which its message would have more than 1500 bytes
+-- The parts of events: each ends before the first event that has a later clock, or with which the part's message and
+-- its IP header would have more than 1500 bytes.
 abbrev pub parts_of : Origin → List Event → Parts
 parts_of origin events = fold (with_event origin) (record { closed = []; last = [] }) events
 
@@ -126,7 +127,7 @@ over origin clock (first ∷ part) = if first.clock.0 == clock.0 then [] else me
 abbrev pub open_at : Origin → Clock → List Event → List Event
 open_at origin clock events = going_on clock (parts_of origin events).last
 
--- the messages of the others, which no later event changes
+-- the messages of the other parts, which no later event changes
 abbrev pub closed_at : Origin → Clock → List Event → List Content
 closed_at origin clock events =
     let parts = parts_of origin events in flat_map (message_of origin) parts.closed ++ over origin clock parts.last

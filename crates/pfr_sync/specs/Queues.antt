@@ -29,7 +29,7 @@ new_queue origin = record { origin = origin; clock = record { 0 = 0 }; entries =
 abbrev pub number_of : QueuedState → ℕ
 number_of entry = entry.state.number.0
 
--- the entry of a state of which nothing was told in the part
+-- the entry of a state if nothing was told of it in the part
 abbrev pub begun : Event → QueuedState
 begun event = elim event.kind [
   | Made ↦ record { action = Insert; state = event.state }
@@ -37,7 +37,7 @@ begun event = elim event.kind [
   | Removed ↦ record { action = Delete; state = event.state }
 ]
 
--- the entry of a state of which something was told; nothing is told of one that was inserted and is removed again
+-- the entry of a state of which an action was told; none if it was inserted and is removed again
 abbrev pub followed : Action → Event → Option QueuedState
 followed Insert event = elim event.kind [
   | Made ↦ Some (record { action = Insert; state = event.state })
@@ -86,7 +86,7 @@ before_zero (b ∷ bytes) = if b == 0 then [] else b ∷ before_zero bytes
 abbrev pub plain_name : IfName → IfName
 plain_name name = if_name (before_zero name.bytes)
 
--- The names of a run's interfaces by their places, as messages have them: those of the first eight, and names without letters where
+-- The names of a run's first eight interfaces by their places, as messages have them, and names without letters if
 -- there are fewer.
 unfoldable pub plain_names : List IfName → List IfName
 plain_names names = take 8 (map plain_name names ++ replicate 8 (if_name []))

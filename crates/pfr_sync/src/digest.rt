@@ -4,7 +4,7 @@ ghost use Rattle.pfr_sync.specs.Origins.{checksum_of};
 
 use md5::{Digest, Md5};
 
-/// The checksum of a ruleset's text, by which a standby knows that it has the same rules: its MD5 (RFC 1321).
+/// The checksum of a ruleset's text: its MD5 (RFC 1321). A standby knows by it that it has the same rules.
 ///
 /// The text may have any length.
 pub fn checksum(text: &[u8]) -> [u8; 16]

@@ -15,7 +15,7 @@ use crate::queue::Action;
 use pfr_track::{State, StateNumber};
 use std::alloc::AllocError;
 
-/// The action told of a state of which nothing was told.
+/// The action told of a state if nothing was told of it before.
 pub fn begun(kind: EventKind) -> Action
     ensures { (state : S) (clock : C) → record { action = result; state = state } ≡ spec.begun (record { kind = kind; state = state; clock = clock }) }
 {

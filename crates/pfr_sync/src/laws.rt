@@ -49,15 +49,16 @@ pub fn records_name_the_state()
     ensures deletions { DeletionsNameTheState }
 {}
 
-/// An insertion names the interface that made the state: where a name stands at that interface's place among the first eight of a
-/// run's, the record has this name, up to its first zero.
+/// An insertion names the interface that made the state: if a name stands at that interface's place among the first
+/// eight of a run's, the record has this name, up to its first zero.
 pub fn insertions_name_the_interface()
     ensures { InsertionsNameTheInterface }
 {}
 
-/// Each record of each message of events is of one of the events: of its state, at its clock. A message tells of events that follow
-/// one another, all of one clock, and its record of a state is of the last event of the state among them. A deletion's is the
-/// removal, and no other record's is. Of an insertion's state the first event among them is the making; of others it isn't.
+/// Each record of each message of events is of one of the events: of its state, at its clock. A message tells of events
+/// that follow one another, all of one clock, and its record of a state is of the state's last event among them. That
+/// event is a removal if the record is a deletion, and else it isn't. The state's first event among them is its making
+/// if the record is an insertion, and else it isn't.
 pub fn records_are_of_events()
     ensures { RecordsAreOfEvents }
 {}

@@ -24,7 +24,7 @@ fn plain_name(name: &IfName) -> IfName
     IfName::new(letters(name))
 }
 
-/// The names of a run's interfaces by their places: those of the first eight, and names without letters where there are fewer.
+/// The names of a run's first eight interfaces by their places, and names without letters if there are fewer.
 pub fn plain_names(names: &[IfName]) -> [IfName; MOST_INTERFACES]
     ensures { result ≡ spec.plain_names names.now }
 {

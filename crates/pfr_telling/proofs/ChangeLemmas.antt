@@ -1,4 +1,4 @@
--- Where the states of a table come from that has taken over a change.
+-- Where the states of a table come from, once it has taken over a change.
 use Rattle.std.proofs.Common.{◌≡◌, ◌⊎◌, nat_lt, List, [], ◌∷◌, if◌then◌else◌, inl, inr}
 use Rattle.std.specs.List.{Contains}
 use Rattle.std.proofs.lemmas.Bool.{cases_Bool}

@@ -35,7 +35,7 @@ nothing_leaves = record {
   no_other = λ n left. absurd (false≢true left);
 }
 
--- ---- where nothing is told
+-- ---- if nothing is told
 
 told_none : (kind : EventKind) (clock : Clock) (state : State) → state.rules.is_synchronised ≡ false → told kind clock state ≡ []
 told_none kind clock state is = ap (λ (test : Bool). if test then record { kind = kind; state = state; clock = clock } ∷ [] else []) is
@@ -43,7 +43,7 @@ told_none kind clock state is = ap (λ (test : Bool). if test then record { kind
 abbrev event : EventKind → Clock → State → Event
 event kind clock state = record { kind = kind; state = state; clock = clock }
 
--- what is left with the events of a state, where they are told and where they aren't
+-- what is left with an event of a state, whether it is told or not
 by_told : (kind : EventKind) (clock : Clock) (state : State) (states : List State) (events : List Event)
     → (state.rules.is_synchronised ≡ true → Leave states (events ++ event kind clock state ∷ []))
     → (state.rules.is_synchronised ≡ false → Leave states events)

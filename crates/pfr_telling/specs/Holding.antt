@@ -18,7 +18,7 @@ use Rattle.pfr_telling.specs.Telling.{AreTold, IsNextChange, changed, events_of}
 abbrev pub synchronised : List State → List State
 synchronised states = filter (λ state. state.rules.is_synchronised) states
 
--- Events leave those of these states of which a standby is told, each as it stands here, and no others.
+-- Of these states, events leave those that a standby is told of, each as it stands here, and no others.
 pub record LeaveStates (states : List State) (events : List Event) : Type 0 where
   pub history : IsHistoryOfStates events
   pub states_are : (n : ℕ) → left n events ≡ state_of (record { 0 = n }) (synchronised states)
@@ -33,7 +33,8 @@ StaysOfOne states _ = ⊤
 abbrev pub IsNextOfStates : ℕ → List State → TableChange → Type 0
 IsNextOfStates count states change = IsNextChange count states change × StaysTold states change × StaysOfOne states change
 
--- If events leave the states of a table as they stand, then with a packet's events they leave the states after the packet so.
+-- If events leave the states of a table as they stand, then with a packet's events they leave the states after the
+-- packet as they stand.
 abbrev pub APacketLeavesTheStates : Type 0
 APacketLeavesTheStates =
     (count : ℕ) (clock : Clock) (change : Option TableChange) (before : StateTable) (events : List Event)
@@ -45,7 +46,7 @@ APacketLeavesTheStates =
     (changed change (record { states = purged clock before.states; limit = before.limit })).states
     (events ++ events_of clock change before.states)
 
--- what a standby holds that holds just those of these states of which it is told
+-- what a standby holds if it holds just these states, without those that it isn't told of
 abbrev pub standing_of : List State → Standing
 standing_of states = map (λ state. (state.number.0, kept_by state)) (synchronised states)
 

@@ -12,7 +12,7 @@ use Rattle.pfr_sync.specs.Laws.{IsHistory, has, held_after, is_left}
 use Rattle.pfr_sync.specs.Messages.{messages_of}
 use Rattle.pfr_telling.specs.Telling.{AreTold, IsNextChange, changed, events_of}
 
--- Events leave those of these states of which a standby is told, and no others.
+-- Of these states, events leave those that a standby is told of, and no others.
 pub record Leave (states : List State) (events : List Event) : Type 0 where
   pub history : IsHistory events
   pub of_states : (state : State) → Contains states state → is_left state.number.0 events ≡ state.rules.is_synchronised

@@ -45,7 +45,7 @@ events_of_change clock (Some (table.Made state)) states = told Made clock state
 events_of_change clock (Some (table.Touched state)) states = told Touched clock state
 events_of_change clock (Some (table.Removed number)) states = events_of_removal clock (state_of number states)
 
--- both, at a packet's clock
+-- the events of a purge and of a packet's own change, at the packet's clock
 unfoldable pub events_of : Clock → Option TableChange → List State → List Event
 events_of clock change states = events_of_purge clock states ++ events_of_change clock change (purged clock states)
 
@@ -62,8 +62,8 @@ pub record AreTold (count : ℕ) (clock : Clock) (states : List State) (events :
 
 -- ---- what was told
 
--- At a clock, the queue has the open part of these events. Their other messages are these and then those that the current packet has
--- closed.
+-- At a clock, the queue has the open part of these events. Their other messages are those in `before` and then those
+-- that the current packet has closed.
 pub record HasTold (before : List Content) (telling : Telling) (clock : Clock) (events : List Event) : Type 0 where
   pub tells : Tells telling.queue clock events
   pub closed : closed_at telling.queue.origin clock events ≡ before ++ telling.closed.items

@@ -1,4 +1,4 @@
--- Readers of what stands in braces, which read the same where lines stand behind it.
+-- Readers of what stands in braces, which read the same if lines stand behind it.
 use Rattle.std.proofs.Common.{◌≡◌, ◌≤◌, ◌<◌, ◌+◌, ◌-◌, ℕ, suc, Bool, true, false, if◌then◌else◌, List, [], ◌∷◌, ◌++◌, length, Some, None, Ok, Err, refl, ap, ◌∙◌, arith}
 use Rattle.pfr_words.specs.declared.sign.Sign.{Sign}
 use Rattle.pfr_words.specs.declared.sign.Sign.TheVariants as s
@@ -80,7 +80,7 @@ open_body_follows {eaten = eaten} f g line ys i true is one other fine sees with
     opened line ys eaten (f true) (g true) i i _ _ one m fine.in_list fine.ends within
 open_body_follows f g line ys i false is one other fine sees within = other.from line ys i fine (omega arith) sees within
 
--- where no list is, a brace opens a body
+-- outside of lists a brace opens a body
 pub stays_open_body : {A : Type 0} {sees : Bool} {count : ℕ} {eaten : A → Bool} (f g : Bool → Parser A)
     → Stays false false 1 false (λ a. false) count (f true) (g true) → Stays false false 0 sees eaten count (f false) (g false)
     → Stays false false 0 sees eaten count (eat_sign s.OpenBrace >>= f) (eat_sign s.OpenBrace >>= g)

@@ -46,7 +46,7 @@ abbrev pub Fewer : Bool → ℕ → ℕ → Type 0
 Fewer true n m = n < m
 Fewer false n m = n ≤ m
 
--- what is left of so many words that close so many braces, where lines stand behind them
+-- what is left of `count` words that close `all` braces, if lines stand behind them
 pub record After {A : Type 0} (line : ℕ) (ys : List Word) (to : Bool) (closing : ℕ) (eaten : A → Bool) (all count : ℕ) (r : A × Input) (other : Outcome A) : Type 0 where
   pub same : other ≡ Ok (r.0, longer line ys r.1)
   pub fine : Fine to r.1
@@ -57,9 +57,9 @@ abbrev pub Follows : {A : Type 0} → ℕ → List Word → Bool → ℕ → (A 
 Follows line ys to closing eaten all count (Ok r) other = After line ys to closing eaten all count r other
 Follows line ys to closing eaten all count (Err e) other = other ≡ Err e
 
--- Of inputs with fewer words than the bound, within a list or not, the second reads with lines behind them what the
--- first reads without; by what is read it is known whether a word was. It is known too whether the next word is there,
--- and how many braces are closed.
+-- For inputs with fewer words than `bound`, within a list or not, the second reads with lines behind them what the
+-- first reads without. `eaten` says of what is read whether a word was. `sees` says whether the next word is there,
+-- and `closing` how many braces are closed.
 pub record Stays {A : Type 0} (before behind : Bool) (closing : ℕ) (sees : Bool) (eaten : A → Bool) (bound : ℕ) (p q : Parser A) : Type 0 where
   pub from : (line : ℕ) (ys : List Word) (i : Input) → Fine before i → closing ≤ closers i.words → Sees sees i → length i.words < bound → Follows line ys behind closing eaten (closers i.words) (length i.words) (p i) (q (longer line ys i))
 

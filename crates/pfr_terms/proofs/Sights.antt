@@ -1,4 +1,4 @@
--- What is ahead of a reader is the same where lines stand behind it.
+-- What is ahead of a reader is the same if lines stand behind it.
 use Rattle.std.proofs.Common.{◌≡◌, ◌+◌, ◌-◌, ℕ, Bool, true, List, [], ◌∷◌, ◌++◌, Option, Some, None, refl, ap}
 use Rattle.pfr_words.specs.declared.sign.Sign.{Sign}
 use Rattle.pfr_words.specs.declared.word.Token.{Token}
@@ -14,7 +14,7 @@ use Rattle.pfr_terms.proofs.Closers.{longer, is_inner, Starts, Plain, inner_toke
 pub record Sight {X : Type 0} (ahead : Input → X) : Type 0 where
   pub alike : (line : ℕ) (ys : List Word) (i : Input) → ahead (longer line ys i) ≡ ahead i
 
--- what is seen only where a word is there
+-- what is seen only if a word is there
 pub record Shows {X : Type 0} (ahead : Input → Option X) : Type 0 where
   pub starts : (i : Input) (x : X) → ahead i ≡ Some x → Starts i.words
 

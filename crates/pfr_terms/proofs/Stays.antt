@@ -1,4 +1,4 @@
--- Readers that read the same where lines stand behind what they read.
+-- Readers that read the same if lines stand behind what they read.
 use Rattle.std.proofs.Common.{◌≡◌, ◌≤◌, ◌<◌, ◌+◌, ◌-◌, ℕ, zero, suc, Bool, true, false, if◌then◌else◌, List, [], ◌∷◌, ◌++◌, length, Option, Some, None, Ok, Err, refl, sym, ap, subst, ◌∙◌, length-append, arith}
 use Rattle.pfr_words.specs.declared.sign.Sign.{Sign}
 use Rattle.pfr_words.specs.declared.sign.Sign.TheVariants as s
@@ -270,7 +270,7 @@ either_found : {B : Type 0} {before to : Bool} {closing count : ℕ} {eaten : B 
 either_found one other true = one
 either_found one other false = other
 
--- where a word was found, fewer are left
+-- if a word was found, fewer are left
 pub stays_found : {B : Type 0} {before to sees : Bool} {closing count : ℕ} {eaten : B → Bool} {p p' q q' : Parser B} (word : List ℕ)
     → Stays before to closing false (λ b. false) count p p' → Stays before to closing false eaten count q q'
     → Stays before to closing sees eaten count (eat_word word >>= (λ found. if found then p else q)) (eat_word word >>= (λ found. if found then p' else q'))

@@ -1,4 +1,4 @@
--- The readers of lists, addresses, ports and other terms read the same where lines stand behind what they read.
+-- The readers of lists, addresses, ports and other terms read the same if lines stand behind what they read.
 use Rattle.std.proofs.Common.{◌≡◌, ℕ, suc, Bool, true, false, List, ◌∷◌, [], Option, Some, None, Result, Ok, Err, codes, if◌then◌else◌, ap, refl}
 use Rattle.pfr_net.specs.declared.address.Ipv4Address.{Ipv4Address}
 use Rattle.pfr_net.specs.declared.protocol.Protocol.{Protocol}

@@ -62,7 +62,8 @@ abbrev pub stand_in_by : Option (List ℕ × List ℕ) → Host
 stand_in_by None = h.Address (record { 0 = 0 })
 stand_in_by (Some parts) = h.Network (record { address = record { 0 = 0 }; bits = 32 })
 
--- what stands for a word that is gathered as no address: behind a network no range goes on
+-- what stands for a word that is no address and whose fault is gathered: a word with a slash counts as a network,
+-- behind which no range goes on
 abbrev pub stand_in : List ℕ → Host
 stand_in text = stand_in_by (cut_at 47 text)
 

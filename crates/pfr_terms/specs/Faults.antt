@@ -25,15 +25,16 @@ goes_first first second =
     nat_lt (kind_number first.kind) (kind_number second.kind)
     || (kind_number first.kind == kind_number second.kind && nat_le first.line second.line)
 
--- of two faults the one of the lower kind, of equals the one on the lower line, and of equals in both the first
+-- of two faults the one of the lower kind; if the kinds are equal, the one on the lower line; if the lines are too, the
+-- first
 unfoldable pub lower : Option ConfError → ConfError → ConfError
 lower None second = second
 lower (Some first) second = if goes_first first second then first else second
 
--- the kind of a fault has a number that is at most that of each of two others
+-- the number of a fault's kind is at most the numbers of the kinds of two others
 abbrev pub IsOfLowerKind : ConfError → ConfError → ConfError → Type 0
 IsOfLowerKind reported first second = (kind_number reported.kind ≤ kind_number first.kind) × (kind_number reported.kind ≤ kind_number second.kind)
 
--- a fault stands on a line that is at most that of each of two others
+-- the line of a fault is at most the lines of two others
 abbrev pub IsOnLowerLine : ConfError → ConfError → ConfError → Type 0
 IsOnLowerLine reported first second = (reported.line ≤ first.line) × (reported.line ≤ second.line)

@@ -1,5 +1,5 @@
--- How words are read: what a reader has before it, what a function that reads does with it, and which fault a word
--- is that doesn't belong where it stands.
+-- How words are read: what a reader has before it, what a function that reads does with it, and the fault of a word
+-- that doesn't belong where it stands.
 use Rattle.std.specs.Prelude.{◌≡◌, ◌≢◌, ℕ, zero, suc, ◌+◌, ◌==◌, ◌&&◌, Bool, true, false, not, nat_le, if◌then◌else◌, List, [], ◌∷◌, length, Option, Some, None, Result, Ok, Err}
 use Rattle.std.specs.Str.{bytes_eq}
 use Rattle.pfr_net.specs.Notation.{number}
@@ -63,7 +63,7 @@ abbrev pub Reads : {A : Type 0} → Outcome A → Result A ConfError → Input �
 Reads outcome (Ok a) new = outcome ≡ Ok (a, new)
 Reads outcome (Err e) new = e.kind ≢ Memory → outcome ≡ Err e
 
--- the same for what is no input any more
+-- the same for a function that leaves no input
 abbrev pub Gives : {A : Type 0} → Result A ConfError → Result A ConfError → Type 0
 Gives outcome (Ok a) = outcome ≡ Ok a
 Gives outcome (Err e) = e.kind ≢ Memory → outcome ≡ Err e
@@ -120,7 +120,7 @@ abbrev pub line_of : List Word → ℕ → ℕ
 line_of [] line = line
 line_of (first ∷ words) line = if is_line_end first.token then line else first.line
 
--- the line of a fault at the next word; where a word is missing, that of the word before
+-- the line of a fault at the next word, or of the word before if a word is missing
 unfoldable pub line_ahead : Input → ℕ
 line_ahead i = line_of i.words i.line
 
@@ -201,7 +201,7 @@ abbrev pub refusal_at : ℕ → List Word → ConfError
 refusal_at before [] = unknown_word before
 refusal_at before (first ∷ words) = refusal_of before first
 
--- the one fault where no rule reads the next word
+-- the one fault if no rule reads the next word
 unfoldable pub refusal : Input → ConfError
 refusal i = refusal_at i.line i.words
 
@@ -226,7 +226,7 @@ leave_out name = λ i. Err (left_out name i)
 unfoldable pub blame : ConfError → Parser (Unit {0})
 blame e = λ i. if i.gathers then Ok (tt, next (record i { gathered = Some (lower i.gathered e) })) else Err e
 
--- a fault of what was read, which is none of a word by itself, is gathered
+-- a fault of what was read that isn't the fault of a single word is gathered
 unfoldable pub note : ConfError → Parser (Unit {0})
 note e = λ i. Ok (tt, record i { gathered = Some (lower i.gathered e) })
 
@@ -241,7 +241,7 @@ pass_over_by (Some word) = λ i. if i.gathers && is_left_out_word word then blam
 unfoldable pub pass_over : Parser (Unit {0})
 pass_over = λ i. pass_over_by (plain_ahead i) i
 
--- with what stands for the item that the word isn't
+-- with what stands for the item that is missing
 abbrev pub passing : {A : Type 0} → A → Parser A
 passing x = do
   _ ← pass_over

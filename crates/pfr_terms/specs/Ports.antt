@@ -78,7 +78,7 @@ abbrev pub stand_in_by : Option (List ℕ × List ℕ) → PortMatch
 stand_in_by None = port_zero
 stand_in_by (Some parts) = Range r.Inclusive 0 0
 
--- what stands for the ports that a word isn't: of an `x:y` a range, behind which no operator comes
+-- what stands for a word that is no port and whose fault is gathered: for `x:y` a range, behind which no operator comes
 abbrev pub stand_in : List ℕ → PortMatch
 stand_in word = stand_in_by (cut_at 58 word)
 

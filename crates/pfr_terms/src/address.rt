@@ -29,7 +29,7 @@ pub enum Host<'a> {
     InterfaceMacro(MacroUse<'a>),
 }
 
-/// What an address of a packet is held against.
+/// What an address of a packet is compared with.
 #[derive(Drop)]
 pub enum Address<'a> {
     Any,
@@ -145,7 +145,8 @@ fn address_fault(
     }
 }
 
-/// What stands for a word that is gathered as no address: behind a network no range goes on.
+/// What stands for a word that is no address and whose fault is gathered. A word with a slash counts as a network,
+/// behind which no range goes on.
 fn stand_in<'a>(word: &[u8]) -> Host<'a>
     ensures { result ≡ spec.stand_in word.now }
 {
@@ -199,7 +200,7 @@ fn bracketed<'a>(alloc: Global, reader: &mut Reader<'_, 'a>) -> Result<Host<'a>,
     Ok(host)
 }
 
-/// The host that a word is which isn't in brackets.
+/// The host that a word outside of brackets is.
 #[tactic(auto, unfolding(crate::specs::Addresses::bare_host))]
 fn bare_host<'a>(alloc: Global, reader: &mut Reader<'_, 'a>) -> Result<Host<'a>, ConfError>
     ensures { Reads (spec.bare_host reader.old) result reader.new }

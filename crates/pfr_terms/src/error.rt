@@ -71,7 +71,7 @@ pub enum ConfErrorKind {
 }
 
 impl ConfErrorKind {
-    /// The number of the kind: of several faults at one word the lowest is reported.
+    /// The number of the kind: of several faults at one word the one with the lowest number is reported.
     #[tactic(auto, unfolding(crate::specs::Faults::kind_number))]
     pub fn number(&self) -> u8
         ensures { result ≡ faults.kind_number self.now }
@@ -116,7 +116,7 @@ impl From<AllocError> for ConfError {
     }
 }
 
-/// The fault that a part of a text has which is no word.
+/// The fault of a part of a text that is no word.
 #[tactic(auto, unfolding(crate::specs::Input::kind_of))]
 pub(crate) fn kind_of(fault: WordFault) -> ConfErrorKind
     ensures { result ≡ spec.kind_of fault }
@@ -128,7 +128,7 @@ pub(crate) fn kind_of(fault: WordFault) -> ConfErrorKind
     }
 }
 
-/// The fault on this line that something is left out, under this name.
+/// The fault on `line` that something is left out, under this name.
 pub fn left_out_at(alloc: Global, line: usize, name: &[u8]) -> ConfError
     ensures { Refuses (spec.left_out_at line name.now) result }
 {
@@ -138,7 +138,7 @@ pub fn left_out_at(alloc: Global, line: usize, name: &[u8]) -> ConfError
     }
 }
 
-/// The same fault, apart from want of memory.
+/// The same fault; want of memory is an error of its own.
 pub(crate) fn name_left_out(
     alloc: Global,
     line: usize,
@@ -153,8 +153,8 @@ pub(crate) fn name_left_out(
     })
 }
 
-/// Of two faults the one whose kind has the lower number, of equals the one on the lower line, and of equals in both
-/// the first.
+/// Of two faults the one whose kind has the lower number. If the numbers are equal, it is the one on the lower line; if
+/// the lines are equal too, it is the first.
 #[tactic(auto, unfolding(crate::specs::Faults::lower))]
 pub fn lower(first: Option<ConfError>, second: ConfError) -> ConfError
     ensures { result ≡ faults.lower first second }

@@ -15,7 +15,7 @@ use std::alloc::Global;
 pub enum FlagsMatch {
     /// Any flags.
     Any,
-    /// Of those of the mask just these.
+    /// Of the flags of `mask` exactly those of `set`.
     Of { set: FlagSet, mask: FlagSet },
 }
 

@@ -13,21 +13,21 @@ use pfr_net::Protocol;
 use pfr_ruleset::PortMatch;
 use std::alloc::Global;
 
-/// One end of a packet: `LIST port LIST`, where one of both may be missing.
+/// One end of a packet: `LIST port LIST`. The addresses or the ports may be missing.
 #[derive(Drop)]
 pub struct Part<'a> {
     pub addresses: Option<Items<AddressMatch<'a>>>,
     pub ports: Option<Items<Written<'a, PortMatch>>>,
 }
 
-/// Both ends of a packet; `all` is none of both.
+/// Both ends of a packet; `all` writes neither.
 #[derive(Drop)]
 pub struct Hosts<'a> {
     pub source: Option<Part<'a>>,
     pub destination: Option<Part<'a>>,
 }
 
-/// What rules, anchors and translation rules ask of a packet alike.
+/// The criteria that rules, anchors and translation rules share.
 #[derive(Drop)]
 pub struct Criteria<'a> {
     pub interfaces: Option<Items<InterfaceMatch<'a>>>,
@@ -69,7 +69,7 @@ pub fn one_end<'a>(alloc: Global, reader: &mut Reader<'_, 'a>) -> Result<Part<'a
     })
 }
 
-/// What is written behind such a word, if it comes next.
+/// What is written behind `word`, if that comes next.
 #[tactic(auto, unfolding(crate::specs::Hosts::part_behind))]
 pub fn part_behind<'a>(
     alloc: Global,
@@ -85,7 +85,7 @@ pub fn part_behind<'a>(
     }
 }
 
-/// `all`, or `from ..` and `to ..`, where one or both may be missing.
+/// `all`, or `from ..` and `to ..`, of which one or both may be missing.
 #[tactic(auto, unfolding(crate::specs::Hosts::hosts))]
 pub fn both_ends<'a>(alloc: Global, reader: &mut Reader<'_, 'a>) -> Result<Hosts<'a>, ConfError>
     ensures { Reads (spec.hosts reader.old) result reader.new }

@@ -3,8 +3,8 @@ ghost use Rattle.std.specs.Prelude.{◌≡◌, ◌⊎◌, None, Some};
 ghost use Rattle.pfr_terms.specs.declared.error.ConfError.{ConfError};
 ghost use Rattle.pfr_terms.specs.Faults.{IsOfLowerKind, IsOnLowerLine, kind_number, lower};
 
-/// Of two faults one of the two is reported, whose kind's number is at most that of each, and where these numbers are
-/// equal it is on the lower line. Where nothing was found before, the second is reported.
+/// Of two faults the one whose kind has the lower number is reported; if the numbers are equal, one on the lower line.
+/// If no fault was found before, the second is reported.
 pub fn the_lower_kind_is_reported()
     ensures alone { (second : ConfError) → lower None second ≡ second }
     ensures one { (first second : ConfError) → (lower (Some first) second ≡ first) ⊎ (lower (Some first) second ≡ second) }

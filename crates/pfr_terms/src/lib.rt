@@ -1,5 +1,5 @@
 //! What pf.conf(5)'s rules are made of: lists, interfaces, protocols, addresses, ports, ICMP types and flags, read
-//! from the words of a ruleset text.
+//! from the words of a ruleset text. A helper of `pfr_conf`, `pfr_elements` and `pfr_faults`.
 //!
 //! A [`Reader`] goes through the words once, from left to right. Each function that reads says exactly what it reads,
 //! or which fault the words have there: a word that doesn't belong where it stands is refused in one place,

@@ -18,7 +18,7 @@ pub trait Item<'a>: Drop {
         ensures { Reads (parser reader.old) result reader.new };
 }
 
-/// Wherever such an item may stand, the use of a macro may stand.
+/// The use of a macro may stand wherever such an item may.
 impl<'a, T: Item<'a>> Item<'a> for Written<'a, T> {
     ghost use Rattle.pfr_terms.specs.Lists as spec;
 
@@ -36,7 +36,7 @@ impl<'a, T: Item<'a>> Item<'a> for Written<'a, T> {
     }
 }
 
-/// The items of a list up to its closing brace, of which there is at least one.
+/// The items of a list, at least one, up to its closing brace.
 #[tactic(auto, using(crate::proofs::Turns::one_turn, crate::proofs::Turns::no_turn))]
 pub fn members<'a, T: Item<'a>>(
     alloc: Global,

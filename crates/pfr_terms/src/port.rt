@@ -113,7 +113,8 @@ pub fn port(alloc: Global, reader: &mut Reader<'_, '_>) -> Result<u16, ConfError
 /// What stands for a port or a range that is gathered as a fault.
 const PORT_ZERO: PortMatch = PortMatch::Compare(Comparison::Equal, 0);
 
-/// What stands for the ports that a word isn't: of an `x:y` a range, behind which no operator comes.
+/// What stands for a word that is no port and whose fault is gathered: for `x:y` a range, behind which no operator
+/// comes.
 fn stand_in(word: &[u8]) -> PortMatch
     ensures { result ≡ spec.stand_in word.now }
 {

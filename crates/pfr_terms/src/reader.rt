@@ -17,9 +17,9 @@ use std::mem::replace;
 /// The words that are left, and the line of the last word that was read. Within the braces of a list a newline is a
 /// blank.
 ///
-/// A text is read up to its first fault. A macro's value is read on behind a plain word that is at fault, since of all
-/// its faults the one of the lowest kind is reported: such faults are gathered, and something stands for the item that the
-/// word isn't.
+/// A text is read up to its first fault. In a macro's value reading goes on behind a plain word that is at fault, as
+/// the fault of the lowest kind is reported: such faults are gathered, and something stands for the item that is
+/// missing.
 #[derive(Drop)]
 pub struct Reader<'w, 'a> {
     words: &'w [Word<'a>],
@@ -78,7 +78,7 @@ impl<'w, 'a> Reader<'w, 'a> {
         gathered
     }
 
-    /// More turns than a loop can take of which each reads a word.
+    /// More turns than a loop can take that reads a word in each turn.
     pub fn turns(&self) -> usize
         ensures { result ≡ spec.turns self.now }
     {
@@ -153,7 +153,7 @@ impl<'w, 'a> Reader<'w, 'a> {
         self.take();
     }
 
-    /// The line of the next word, or of the last one where the line ends.
+    /// The line of the next word, or of the last one if the line ends here.
     #[tactic(auto, unfolding(crate::specs::Input::line_ahead))]
     pub fn line_ahead(&self) -> usize
         ensures { result ≡ spec.line_ahead self.now }
@@ -311,7 +311,7 @@ impl<'w, 'a> Reader<'w, 'a> {
         left_out_at(alloc, self.line_ahead(), name)
     }
 
-    /// The same fault, apart from want of memory.
+    /// The same fault; want of memory is an error of its own.
     #[tactic(auto, unfolding(crate::specs::Input::left_out))]
     pub(crate) fn name_left_out(&self, alloc: Global, name: &[u8]) -> Result<ConfError, AllocError>
         ensures { IfOk result (λ e. e ≡ spec.left_out name.now self.now) }
@@ -319,7 +319,7 @@ impl<'w, 'a> Reader<'w, 'a> {
         name_left_out(alloc, self.line_ahead(), name)
     }
 
-    /// Goes past the next word, which is at fault, and gathers the fault; where none are gathered it is the answer.
+    /// Goes past the next word, which is at fault, and gathers the fault; answers the fault if none are gathered.
     #[tactic(auto, unfolding(crate::specs::Input::blame))]
     pub fn blame(&mut self, fault: ConfError) -> Result<(), ConfError>
         ensures { Reads (spec.blame fault self.old) result self.new }
@@ -333,7 +333,7 @@ impl<'w, 'a> Reader<'w, 'a> {
         Ok(())
     }
 
-    /// Gathers a fault of what was read, which is none of a word by itself.
+    /// Gathers a fault of what was read that isn't the fault of a single word.
     #[tactic(auto, unfolding(crate::specs::Input::note))]
     pub fn note(&mut self, fault: ConfError)
         ensures { spec.note fault self.old ≡ Ok (tt, self.new) }
@@ -356,7 +356,7 @@ impl<'w, 'a> Reader<'w, 'a> {
         }
     }
 
-    /// Goes to the end of a macro's value, where no word has to be left.
+    /// Goes to the end of a macro's value. No word may be left there.
     #[tactic(auto, unfolding(crate::specs::Input::finish), using(crate::proofs::Turns::one_turn, crate::proofs::Turns::no_turn))]
     pub fn finish(&mut self, alloc: Global) -> Result<(), ConfError>
         ensures { Reads (spec.finish self.old) result self.new }
@@ -370,7 +370,7 @@ impl<'w, 'a> Reader<'w, 'a> {
         Err(self.refuse(alloc))
     }
 
-    /// Goes past this sign, which has to come next; words before it are passed over where faults are gathered.
+    /// Goes past this sign, which has to come next; words before it are passed over if faults are gathered.
     #[tactic(auto, unfolding(crate::specs::Input::expect_sign), using(crate::proofs::Turns::one_turn, crate::proofs::Turns::no_turn))]
     pub fn expect_sign(&mut self, alloc: Global, sign: Sign) -> Result<(), ConfError>
         ensures { Reads (spec.expect_sign sign self.old) result self.new }
@@ -406,7 +406,7 @@ impl<'w, 'a> Reader<'w, 'a> {
         Name { line, text }
     }
 
-    /// Passes over the next word, which doesn't belong where it stands; as a name it stands for the item that it isn't.
+    /// Passes over the next word, which doesn't belong where it stands; its name stands for the item that is missing.
     #[tactic(auto, unfolding(crate::specs::Input::passed))]
     pub(crate) fn passed(&mut self, alloc: Global, text: Bytes<'a>) -> Result<Name<'a>, ConfError>
         ensures { Reads (spec.passed text.entry self.old) result self.new }

@@ -58,7 +58,7 @@ pub(crate) fn macro_in<'a>(line: usize, token: &Token<'a>) -> Option<MacroUse<'a
     }
 }
 
-/// The fault that a word is which doesn't belong where it stands; `line` is that of the word before.
+/// The fault of a word that doesn't belong where it stands; `line` is the line of the word before.
 pub(crate) fn refusal_of(alloc: Global, line: usize, word: &Word<'_>) -> ConfError
     ensures { Refuses (spec.refusal_of line word.now) result }
 {

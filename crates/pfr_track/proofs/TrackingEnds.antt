@@ -27,7 +27,7 @@ use Rattle.pfr_track.proofs.TrackingSegments.{sender_moves_on, receiver_moves_on
 
 -- ---- TCP
 
--- neither end goes back where the segment is accepted
+-- neither end goes back if the segment is accepted
 abbrev FollowsOn : TcpPeer → TcpPeer → Followed → Type 0
 FollowsOn sender receiver follow.Removed = Unit
 FollowsOn sender receiver follow.Refused = Unit
@@ -46,7 +46,7 @@ follows_on sender receiver header =
     follows_if (begins_anew sender receiver header) (fits (prepared sender receiver header)) sender receiver e.sender e.receiver
     (record { first_has = sender_moves_on sender receiver header; second_has = receiver_moves_on sender receiver header })
 
--- neither end goes back where the packet is accepted
+-- neither end goes back if the packet is accepted
 abbrev TracksOn : Peers → Track → Type 0
 TracksOn ends tracks.Removed = Unit
 TracksOn ends tracks.Refused = Unit

@@ -14,7 +14,7 @@ use Rattle.pfr_track.specs.declared.peers.Peers.TheVariants as peers
 use Rattle.pfr_track.specs.declared.tcp.TcpPeer.{TcpPeer}
 use Rattle.pfr_track.specs.Tracking.{echo_by, exchanged, other_by, tcp_track, track, udp_by}
 
--- something that is true of both ends and of what becomes of them, where it is true for each kind and where a packet is
+-- something that is true of both ends and of what becomes of them, if it is true for each kind and if a packet is
 -- refused
 pub record IsTrueOfEach (is_forth : Bool) (P : Peers → Track → Type 0) : Type 0 where
   pub tcp : (first second : TcpPeer) (header : TcpHeader) → P (peers.Tcp first second) (tcp_track first second header is_forth)

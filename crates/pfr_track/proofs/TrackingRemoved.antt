@@ -21,7 +21,7 @@ use Rattle.pfr_track.specs.Tcp.{begins_anew, fits, has_reached, is_ack, is_syn, 
 use Rattle.pfr_track.specs.Tracking.{followed, is_same_way, placed, tcp_track, touched, track, with_track}
 use Rattle.pfr_track.proofs.TrackingKinds.{of_track}
 
--- a connection is begun anew only over ends that have both closed
+-- a new connection is begun only over ends that have both closed
 removed_by : (anew fits : Bool) (sender receiver first second : TcpPeer) (header : TcpHeader) → begins_anew sender receiver header ≡ anew
     → cond anew follow.Removed (cond fits (follow.Accepted first second) follow.Refused) ≡ follow.Removed → HaveBothClosed sender receiver
 removed_by true fits sender receiver first second header anew is =

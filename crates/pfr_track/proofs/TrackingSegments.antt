@@ -92,7 +92,7 @@ low_goes_forward low end below = low_if (is_at_least end low) low end below refl
 
 -- what is kept of both ends until a segment fits
 pub record AreKept (sender receiver : TcpPeer) (e : Exchange) : Type 0 where
-  -- the sender is no less far, and where it was seen, at its place
+  -- the sender is no less far, and if it was seen, at its place
   pub sender_state : code_of sender.state ≤ code_of e.sender.state
   pub sender_low : has_reached SynSent sender.state ≡ true → e.sender.low ≡ sender.low
   -- and the other end is where it was

@@ -1,5 +1,5 @@
--- Words of the laws: what a packet makes, leaves and ends, how far the ends of a connection come, and a connection from its
--- other side.
+-- Words of the laws: what a packet makes, leaves and ends, how far the ends of a connection come, and a connection from
+-- its other side.
 use Rattle.std.specs.Prelude.{◌≡◌, ◌≢◌, ◌+◌, ◌^◌, ◌<◌, ◌≤◌, true}
 use Rattle.pfr_net.specs.declared.direction.Direction.{Direction}
 use Rattle.pfr_net.specs.declared.direction.Direction.TheVariants.{In, Out}
@@ -48,7 +48,7 @@ pub record IsLeftBy (state : State) (packet : Packet) (way : Direction) (clock :
   pub rules : next.rules ≡ state.rules
   -- at the same time
   pub made : next.made ≡ state.made
-  -- it waits anew, for as many seconds as its timeout has
+  -- its deadline is set again, by its timeout's seconds
   pub deadline : next.deadline.0 ≡ clock.0 + seconds_of timeouts next.timeout
   -- a packet that goes the way of the first one is counted there
   pub counts_forth : way ≡ state.direction → next.forth ≡ with_packet packet state.forth
@@ -183,7 +183,7 @@ WhatAPacketLeaves =
     → touched state packet direction clock timeouts ≡ Touched next
     → IsLeftBy state packet direction clock timeouts next
 
--- a packet ends a state only where both ends have closed
+-- a packet ends a state only if both ends have closed
 abbrev pub OnlyEndedAreRemoved : Type 0
 OnlyEndedAreRemoved =
     (state : State) (packet : Packet) (direction : Direction) (clock : Clock) (timeouts : Timeouts)

@@ -2,15 +2,15 @@
 use Rattle.std.specs.Prelude.{ℕ, ◌+◌, ◌-◌, ◌%◌, ◌^◌, Bool, nat_lt}
 use Rattle.pfr_track.specs.declared.sequence.Sequence.{Sequence}
 
--- the number so many places on
+-- the number `count` places on
 abbrev pub plus : Sequence → ℕ → Sequence
 plus a count = record { 0 = (a.0 + count) % 2 ^ 32 }
 
--- the number so many places back
+-- the number `count` places back
 abbrev pub minus : Sequence → ℕ → Sequence
 minus a count = record { 0 = (a.0 + (2 ^ 32 - count)) % 2 ^ 32 }
 
--- how many places it is from b on to a
+-- the number of places from b on to a
 abbrev pub since : Sequence → Sequence → ℕ
 since a b = (a.0 + (2 ^ 32 - b.0)) % 2 ^ 32
 

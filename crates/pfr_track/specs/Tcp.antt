@@ -1,6 +1,6 @@
--- How a TCP connection is followed, after pf: by the sequence numbers and windows of both ends (RFC 9293, sections 3.3, 3.4 and
--- 3.10.7.4; RFC 7323, section 2). An end's `low` is behind the last byte that it has sent, its `high` behind the last one
--- that it may send.
+-- How a TCP connection is followed, after pf: by the sequence numbers and windows of both ends (RFC 9293, sections 3.3,
+-- 3.4 and 3.10.7.4; RFC 7323, section 2). An end's `low` is behind the last byte that it has sent, its `high` behind
+-- the last one that it may send.
 use Rattle.std.specs.Prelude.{ℕ, ◌+◌, ◌-◌, ◌*◌, ◌/◌, ◌^◌, ◌==◌, ◌&&◌, ◌||◌, Bool, not, min, max, nat_le, nat_lt, if◌then◌else◌, Option, Some, None, is_some, bit_and}
 use Rattle.pfr_net.specs.declared.timeout.Timeout.{Timeout}
 use Rattle.pfr_net.specs.declared.timeout.Timeout.TheVariants.{TcpOpening, TcpEstablished, TcpClosing, TcpFinWait, TcpClosed}
@@ -56,7 +56,7 @@ is_rst header = has 4 header
 abbrev pub is_ack : TcpHeader → Bool
 is_ack header = has 16 header
 
--- how often a window with this shift counts; shifts above 14 count as 14
+-- the factor of a window with this shift; shifts above 14 count as 14
 abbrev pub factor : ℕ → ℕ
 factor shift = 2 ^ min shift 14
 
@@ -80,7 +80,7 @@ one_if test = if test then 1 else 0
 abbrev pub places : TcpHeader → ℕ
 places header = header.payload_length + one_if (is_syn header)
 
--- windows are scaled where both ends have offered it, and never in a SYN
+-- windows are scaled if both ends have offered it, and never in a SYN
 abbrev pub are_scaled : TcpPeer → TcpPeer → TcpHeader → Bool
 are_scaled sender receiver header = (is_some sender.scale && is_some receiver.scale) && not (is_syn header)
 
@@ -99,7 +99,7 @@ begun sender receiver header = record {
   };
 }
 
--- a SYN that answers an offer of a scale: with an offer of its own both count from now on, without one neither does
+-- a SYN that answers an offer of a scale: if it has an offer of its own both count from now on, if not neither does
 abbrev pub settled : Option ℕ → Option ℕ → Exchange → Exchange
 settled own None e = e
 settled None (Some other) e = record e { receiver = record e.receiver { greatest_window = min (scaled e.receiver.greatest_window other) 65535; scale = None } }
@@ -161,7 +161,8 @@ is_below_high e = is_at_least e.sender.high e.segment.data_end
 abbrev pub is_recent : Exchange → Bool
 is_recent e = is_at_least e.segment.sequence (minus e.sender.low (scaled e.receiver.greatest_window e.segment.receiver_shift))
 
--- what it acknowledges is at most 67035 bytes, scaled, behind what the other end has sent, and at most so many ahead of that
+-- what it acknowledges is at most 67035 bytes, scaled, behind what the other end has sent, or at most 67035 bytes ahead
+-- of it
 abbrev pub is_near : ℕ → ℕ → Bool
 is_near behind shift = if nat_lt behind 2147483648 then nat_le behind (scaled 67035 shift) else nat_le (2 ^ 32 - behind) 67035
 

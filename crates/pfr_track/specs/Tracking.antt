@@ -1,5 +1,5 @@
--- What becomes of a state: the one that a packet makes, and what a packet of its connection does to it (pf.conf(5), "Stateful
--- tracking options", "timeout").
+-- What becomes of a state: the one that a packet makes, and what a packet of its connection does to it (pf.conf(5),
+-- "Stateful tracking options", "timeout").
 use Rattle.std.specs.Prelude.{◌+◌, ◌^◌, ◌-◌, Bool, true, false, min, if◌then◌else◌}
 use Rattle.pfr_net.specs.declared.direction.Direction.{Direction}
 use Rattle.pfr_net.specs.declared.direction.Direction.TheVariants.{In, Out}
@@ -87,7 +87,7 @@ followed sender receiver header =
     then follow.Accepted (raised header (moved (prepared sender receiver header))).sender (raised header (moved (prepared sender receiver header))).receiver
     else follow.Refused
 
--- the ends that a segment leaves, the maker's first, where the maker sent it or the other one
+-- the ends that a segment leaves, the maker's first; if `is_forth`, the maker sent it
 abbrev pub placed : Bool → Followed → Track
 placed is_forth follow.Removed = tracks.Removed
 placed is_forth follow.Refused = tracks.Refused
@@ -98,7 +98,7 @@ unfoldable pub tcp_track : TcpPeer → TcpPeer → TcpHeader → Bool → Track
 tcp_track first second header is_forth =
     placed is_forth (if is_forth then followed first second header else followed second first header)
 
--- both ends of a connection of datagrams after one of them
+-- both ends of a connection of datagrams behind a packet, the maker's first; if `is_forth`, the maker sent it
 abbrev pub exchanged : DatagramPeer → DatagramPeer → Bool → DatagramPeer × DatagramPeer
 exchanged first second is_forth =
     if is_forth then (datagram.spoken first, datagram.answered second) else (datagram.answered first, datagram.spoken second)
@@ -126,7 +126,7 @@ is_same_way In In = true
 is_same_way Out Out = true
 is_same_way _ _ = false
 
--- the state behind an accepted packet, which is counted; it waits anew
+-- the state behind an accepted packet: the packet is counted, and the deadline set again
 abbrev pub with_track : State → Packet → Bool → Clock → Timeouts → Track → Touch
 with_track state packet is_forth clock timeouts tracks.Removed = Removed
 with_track state packet is_forth clock timeouts tracks.Refused = Mismatch
@@ -142,7 +142,7 @@ unfoldable pub touched : State → Packet → Direction → Clock → Timeouts �
 touched state packet direction clock timeouts =
     with_track state packet (is_same_way direction state.direction) clock timeouts (track state.peers packet.transport (is_same_way direction state.direction))
 
--- the same of a state that became in its place what it is from then on
+-- the same for a state that was changed in its place
 abbrev pub as_touch : Advance → State → Touch
 as_touch advances.Accepted state = Touched state
 as_touch advances.Removed state = Removed

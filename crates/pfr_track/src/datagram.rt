@@ -61,7 +61,7 @@ impl DatagramPeer {
     }
 }
 
-/// Of two timeouts the second where both ends have spoken and were answered.
+/// `multiple` if both ends have spoken and were answered, else `single`.
 pub(crate) fn timeout_by(
     first: DatagramPeer,
     second: DatagramPeer,

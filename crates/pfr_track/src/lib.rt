@@ -1,8 +1,8 @@
-//! What becomes of one state when a packet of its connection comes.
+//! One state: what a packet makes, and what a packet of its connection does to it.
 //!
-//! [`make`] gives the state that a packet makes, [`touch`] what a packet does to a state: it is followed by the rules of
-//! pf's own tracking, over TCP's sequence numbers and windows (RFC 9293, RFC 7323), or by who has spoken for other
-//! protocols. A packet that doesn't fit changes nothing. Nothing here takes memory.
+//! [`make`] gives the state that a packet makes, [`touch`] what a packet does to a state. TCP is followed by the rules
+//! of pf's own tracking, over sequence numbers and windows (RFC 9293, RFC 7323); other protocols by which ends have
+//! spoken. A packet that doesn't fit changes nothing. Nothing here takes memory.
 #![tactic(auto)]
 
 pub mod datagram;

@@ -29,8 +29,8 @@ fn first_peers(transport: &Transport) -> (Peers, Timeout)
     }
 }
 
-/// The state that a packet of the interface makes, whose number is `number`: its keys are `wire` and `stack`, and it counts
-/// the packet.
+/// The state that a packet of the interface makes. Its number is `number`, its keys are `wire` and `stack`, and it
+/// counts the packet.
 pub fn make(
     number: StateNumber,
     packet: &Packet,

@@ -15,7 +15,7 @@ pub enum Touch {
     Mismatch,
 }
 
-/// What a packet does to a state that becomes in its place what it is from then on.
+/// What a packet does to a state that is changed in place.
 #[derive(Clone, Copy, Debug, PartialEq, Eq)]
 pub enum Advance {
     /// The packet is accepted.

@@ -2,7 +2,7 @@
 use crate::datagram::DatagramPeer;
 use crate::tcp::TcpPeer;
 
-/// What was seen of both ends of a connection, that of the state's maker first.
+/// What was seen of both ends of a connection, the end of the state's maker first.
 #[derive(Clone, Copy)]
 pub enum Peers {
     Tcp(TcpPeer, TcpPeer),

@@ -14,8 +14,8 @@ const RST: u8 = 4;
 
 const ACK: u8 = 16;
 
-/// How far behind what an end has sent an acknowledgement may be, before scaling, or ahead of it: the greatest window and
-/// a longest packet.
+/// How many bytes an acknowledgement may be behind what the other end has sent, before scaling, or ahead of it: the
+/// greatest window and a longest packet.
 const FARTHEST: u32 = 67035;
 
 fn has(flag: u8, header: &TcpHeader) -> bool
@@ -48,7 +48,7 @@ pub(crate) fn is_ack(header: &TcpHeader) -> bool
     has(ACK, header)
 }
 
-/// How often a window with this shift counts.
+/// The factor of a window with this shift; a shift above 14 counts as 14.
 #[tactic(auto, using(crate::proofs::Factors::factor_is_small))]
 fn factor(shift: u8) -> u16
     ensures value { result ≡ spec.factor shift }
@@ -80,13 +80,13 @@ fn places(header: &TcpHeader) -> u32
     u32::from(header.payload_length) + u32::from(is_syn(header))
 }
 
-/// What a segment says, once a step of the tracking after the other has been applied.
+/// What a segment says. The steps of the tracking adjust it one after the other.
 #[derive(Clone, Copy)]
 pub(crate) struct Segment {
     pub sequence: Sequence,
-    /// Behind its bytes.
+    /// The number behind its bytes.
     pub data_end: Sequence,
-    /// Behind its FIN.
+    /// The number behind its FIN.
     pub end: Sequence,
     pub acknowledgement: Sequence,
     pub window: u16,
@@ -96,7 +96,7 @@ pub(crate) struct Segment {
     pub receiver_shift: u8,
 }
 
-/// A segment between its sender and the other end, both as they would become.
+/// A segment between its sender and the other end, both as the segment would leave them.
 #[derive(Clone, Copy)]
 pub(crate) struct Exchange {
     pub sender: TcpPeer,
@@ -131,7 +131,7 @@ impl Exchange {
         }
     }
 
-    /// Settles the scales by a SYN that answers an offer.
+    /// Settles the scales if the segment is a SYN that answers an offer.
     fn settle(&mut self, header: &TcpHeader)
         ensures { self.new ≡ spec.with_scales header.now self.old }
     {
@@ -158,7 +158,7 @@ impl Exchange {
         }
     }
 
-    /// The first segment of the sender's end that is seen.
+    /// Takes the segment as the first one that is seen of the sender's end.
     #[tactic(auto, unfolding(crate::specs::Tcp::first_seen))]
     fn see_first(&mut self)
         ensures { self.new ≡ spec.first_seen self.old }
@@ -176,7 +176,7 @@ impl Exchange {
         self.sender.greatest_window = self.sender.greatest_window.max(self.segment.window);
     }
 
-    /// Opens the sender's end where this is its first segment.
+    /// Opens the sender's end if this is its first segment.
     #[tactic(auto, unfolding(crate::specs::Tcp::opened))]
     fn open(&mut self, header: &TcpHeader)
         ensures { self.new ≡ spec.opened header.now self.old }
@@ -187,7 +187,8 @@ impl Exchange {
         }
     }
 
-    /// Takes what the other end has sent for acknowledged where the segment acknowledges nothing.
+    /// Takes what the other end has sent as acknowledged if the segment acknowledges nothing, or an end of which
+    /// nothing was seen.
     #[tactic(auto, unfolding(crate::specs::Tcp::acknowledged))]
     fn acknowledge(&mut self, header: &TcpHeader)
         ensures { self.new ≡ spec.acknowledged header.now self.old }
@@ -199,7 +200,7 @@ impl Exchange {
         }
     }
 
-    /// Takes a segment without places to stand where its sender is.
+    /// Takes a segment without places as standing where its sender is.
     #[tactic(auto, unfolding(crate::specs::Tcp::eased))]
     fn ease(&mut self)
         ensures { self.new ≡ spec.eased self.old }

@@ -7,7 +7,7 @@ ghost use Rattle.pfr_track.specs.Sequences as spec;
 pub struct Sequence(pub u32);
 
 impl Sequence {
-    /// The number so many places on.
+    /// The number `count` places on.
     #[inline]
     pub(crate) fn plus(self, count: u32) -> Sequence
         ensures { result ≡ spec.plus self count }
@@ -15,7 +15,7 @@ impl Sequence {
         Sequence(self.0.wrapping_add(count))
     }
 
-    /// The number so many places back.
+    /// The number `count` places back.
     #[inline]
     pub(crate) fn minus(self, count: u32) -> Sequence
         ensures { result ≡ spec.minus self count }
@@ -23,7 +23,7 @@ impl Sequence {
         Sequence(self.0.wrapping_sub(count))
     }
 
-    /// How many places it is from another number on to this one.
+    /// The number of places from `other` on to this number.
     #[inline]
     pub(crate) fn since(self, other: Sequence) -> u32
         ensures { result ≡ spec.since self other }

@@ -8,16 +8,16 @@ use crate::time::{Clock, Deadline};
 use pfr_headers::Packet;
 use pfr_net::{Binding, Direction, InterfacePlace, RuleNumber, Timeout};
 
-/// The number of a state: that of the packet that made it.
+/// The number of a state: the number of the packet that made it.
 #[derive(Clone, Copy, Debug, PartialEq, Eq, PartialOrd, Ord, Hash)]
 pub struct StateNumber(pub u64);
 
 /// The rules by which a state was made, and what they say of it.
 #[derive(Clone, Copy, PartialEq, Eq)]
 pub struct StateRules {
-    /// None where no filter rule decided.
+    /// None if no filter rule decided.
     pub filter: Option<RuleNumber>,
-    /// None where nothing is translated.
+    /// None if nothing is translated.
     pub translation: Option<RuleNumber>,
     /// Whether a standby is told of it: its rule doesn't say `no-sync`.
     pub is_synchronised: bool,
@@ -51,14 +51,14 @@ impl Traffic {
 #[derive(Clone, Copy)]
 pub struct State {
     pub number: StateNumber,
-    /// From here on it is no more.
+    /// The second from which on it is no more.
     pub deadline: Deadline,
     /// What went the way of the packet that made it.
     pub forth: Traffic,
     /// What went the other way.
     pub back: Traffic,
     pub rules: StateRules,
-    /// What its packets are on the wire, and what they are behind the firewall's translation. Both have the connection's
+    /// The key of its packets on the wire, and the key behind the firewall's translation. Both have the connection's
     /// protocol.
     pub wire: Key,
     pub stack: Key,
@@ -69,6 +69,6 @@ pub struct State {
     pub direction: Direction,
     /// The interface of the packet that made it.
     pub interface: InterfacePlace,
-    /// The timeout of which the deadline is.
+    /// The timeout from which the deadline was computed.
     pub timeout: Timeout,
 }

@@ -5,8 +5,8 @@ ghost use Rattle.pfr_track.specs.Tcp as spec;
 use crate::sequence::Sequence;
 use pfr_net::Timeout;
 
-/// How far one end of a TCP connection has come, by what was seen of it. The states are in order: an end never goes back.
-/// They are pf's, which has RFC 9293's names and uses some of them alone.
+/// How far one end of a TCP connection has come, by what was seen of it. The states are in order: an end never goes
+/// back. They are pf's states, which have RFC 9293's names; pf uses only some of them.
 #[derive(Clone, Copy, Debug, PartialEq, Eq, Hash)]
 pub enum TcpPeerState {
     /// Nothing was seen of this end.
@@ -102,9 +102,9 @@ impl TcpPeerState {
 #[derive(Clone, Copy, PartialEq, Eq)]
 pub struct TcpPeer {
     pub state: TcpPeerState,
-    /// Behind the last byte that it has sent.
+    /// The number behind the last byte that it has sent.
     pub low: Sequence,
-    /// Behind the last byte that it may send: what the other end has acknowledged, and its window.
+    /// The number behind the last byte that it may send: what the other end has acknowledged, and its window.
     pub high: Sequence,
     /// The greatest window that it has offered, unscaled.
     pub greatest_window: u16,

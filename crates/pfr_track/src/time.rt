@@ -10,7 +10,7 @@ pub struct Clock(pub u32);
 pub struct Deadline(pub u64);
 
 impl Deadline {
-    /// So many seconds after the clock.
+    /// The deadline that lies `seconds` seconds after the clock.
     #[inline]
     pub fn after(clock: Clock, seconds: u32) -> Deadline
         ensures { result.0 ≡ clock.0 + seconds }
@@ -18,7 +18,7 @@ impl Deadline {
         Deadline(u64::from(clock.0) + u64::from(seconds))
     }
 
-    /// Whether it has come.
+    /// Whether it has come at `clock`.
     #[inline]
     pub fn has_come(self, clock: Clock) -> bool
         ensures { result ≡ nat_le self.0 clock.0 }

@@ -39,7 +39,7 @@ fn follow(sender: TcpPeer, receiver: TcpPeer, header: &TcpHeader) -> Followed
     Followed::Accepted(exchange.sender, exchange.receiver)
 }
 
-/// Follows a segment between the maker of the state and the other end, of which the maker sends it or the other one.
+/// Follows a segment between the maker of the state and the other end. If `is_forth`, the maker sent it.
 #[tactic(auto, unfolding(crate::specs::Tracking::tcp_track))]
 fn tcp_track(maker: TcpPeer, other: TcpPeer, header: &TcpHeader, is_forth: bool) -> Track
     ensures { result ≡ spec.tcp_track maker other header.now is_forth }
@@ -63,7 +63,7 @@ fn tcp_track(maker: TcpPeer, other: TcpPeer, header: &TcpHeader, is_forth: bool)
     }
 }
 
-/// Both ends of a connection of datagrams, the maker's first, after one that the maker or the other one sent.
+/// Both ends of a connection of datagrams behind a packet, the maker's first. If `is_forth`, the maker sent it.
 fn exchanged(
     maker: DatagramPeer,
     other: DatagramPeer,
@@ -110,7 +110,7 @@ fn track(peers: &Peers, transport: &Transport, is_forth: bool) -> Track
     }
 }
 
-/// Whether two ways are one.
+/// Whether two directions are the same.
 fn is_same_way(first: Direction, second: Direction) -> bool
     ensures { result ≡ spec.is_same_way first second }
 {
@@ -120,8 +120,8 @@ fn is_same_way(first: Direction, second: Direction) -> bool
     }
 }
 
-/// What a packet of its connection does to a state. One that is accepted is counted, and the state waits anew for the next
-/// one.
+/// What a packet of its connection does to a state. An accepted packet is counted, and the state's deadline is set
+/// again.
 pub fn touch(
     state: &State,
     packet: &Packet,
@@ -139,8 +139,8 @@ pub fn touch(
     }
 }
 
-/// What [`touch`] says, of a state that becomes in its place what it is from then on: a state is large. One whose packet isn't
-/// accepted stays as it was.
+/// Does what [`touch`] says to a state in its place, as a state is large. If the packet isn't accepted, the state stays
+/// as it was.
 #[tactic(auto, unfolding(crate::specs::Tracking::touched))]
 #[inline(never)]
 pub fn advance(

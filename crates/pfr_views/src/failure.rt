@@ -281,7 +281,7 @@ fn why_unjoined(misfit: Misfit) -> &'static str {
 
 /// Says in one line what is wrong, and answers the status to end with.
 pub fn report<E: io::Write>(failure: &Failure<'_>, err: &mut E) -> u8 {
-    // Where this can't be written either, the status alone says it.
+    // If this can't be written either, the status alone says it.
     let _ = writeln!(err, "pfreplay: {failure}");
     failure.status()
 }

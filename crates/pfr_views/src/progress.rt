@@ -30,7 +30,7 @@ fn sizes_of<R: Files>(rt: &R, captures: &[CaptureWords<'_>]) -> Option<u64> {
     Some(sum)
 }
 
-/// Has a meter say how far a command over captures has come, if that is asked for.
+/// Has a meter say how far a command over captures has come, if the words ask for it.
 pub fn begin_progress<R: Files, M: Meter>(
     rt: &R,
     asks: bool,

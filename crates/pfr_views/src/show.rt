@@ -49,7 +49,7 @@ fn show_told<'a, R: Files + AllocGlobal, I: Read + Drop, O: Write>(
     }
 }
 
-/// Prints the packets that are asked for, and answers how many there are.
+/// Prints the selected packets, and answers how many there are.
 fn print_shown<'a, R: Files + AllocGlobal, I: Read + Drop, O: Write>(
     rt: &R,
     asked: &ShowWords<'a>,

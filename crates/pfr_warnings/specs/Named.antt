@@ -10,12 +10,12 @@ use Rattle.pfr_criteria.specs.Packets.{is_named}
 abbrev pub is_among : List IfName → IfName → Bool
 is_among names name = list_any (λ other. is_named other name) names
 
--- what is asked for is this interface, or with `!` every other one
+-- a criterion names this interface: it asks for it, or with `!` for every other one
 abbrev pub asks_for : IfName → Option InterfaceCriterion → Bool
 asks_for name None = false
 asks_for name (Some criterion) = is_named criterion.name name
 
--- one of some rules or anchors, of which each asks for an interface or none, asks for this one
+-- one of the rules or anchors names this interface; `asked` gives the criterion of each, if it has one
 abbrev pub one_asks_for : {R : Type 0} → (R → Option InterfaceCriterion) → IfName → List R → Bool
 one_asks_for asked name rules = list_any (λ rule. asks_for name (asked rule)) rules
 
@@ -30,16 +30,16 @@ is_named_in rules name =
 
 -- ---- in their order
 
--- the interface that is asked for, if one is
+-- the interface that a criterion names, if there is a criterion
 abbrev pub name_in : Option InterfaceCriterion → Option IfName
 name_in None = None
 name_in (Some criterion) = Some criterion.name
 
--- the interfaces that rules or anchors ask for, in their order, each as often as it is asked for
+-- the interfaces that rules or anchors name, in their order, each as often as they name it
 abbrev pub asked_by : {R : Type 0} → (R → Option InterfaceCriterion) → List R → List IfName
 asked_by asked rules = filter_map (λ rule. name_in (asked rule)) rules
 
--- those that a ruleset asks for: its filter rules, its anchors, and its rules of nat, rdr and binat
+-- the interfaces that a ruleset names: its filter rules, its anchors, and its rules of nat, rdr and binat
 abbrev pub asked_in : Ruleset → List IfName
 asked_in rules =
     asked_by (λ rule. rule.packet.interface) rules.filter.rules
@@ -48,27 +48,27 @@ asked_in rules =
     ++ (asked_by (λ rule. rule.packet.interface) rules.translations.rdrs
     ++ asked_by (λ rule. rule.packet.interface) rules.translations.binats)))
 
--- with a name behind others, unless it is one of them
+-- names with a further one behind them, unless it is one of them
 abbrev pub with_name : List IfName → IfName → List IfName
 with_name names name = if is_among names name then names else names ++ name ∷ []
 
--- with what is asked for, if an interface is
+-- names with the interface that a criterion names, if there is a criterion
 abbrev pub with_asked : List IfName → Option InterfaceCriterion → List IfName
 with_asked names None = names
 with_asked names (Some criterion) = with_name names criterion.name
 
--- with each further name at its first place
+-- names with each further name at its first place
 abbrev pub each_once : (names more : List IfName) → List IfName
 each_once names [] = names
 each_once names (name ∷ more) = each_once (with_name names name) more
 
--- besides names from before there are just those of which this is true
+-- the names after are those before and those for which `asked` holds
 abbrev pub Gains : (before after : List IfName) → (IfName → Bool) → Type 0
 Gains before after asked = (name : IfName) → is_among after name ≡ (is_among before name || asked name)
 
 abbrev pub has_interface : List Interface → IfName → Bool
 has_interface interfaces name = list_any (λ interface. is_named interface.name name) interfaces
 
--- those of some names that no interface of a run has
+-- the names in a list that no interface of a run has
 abbrev pub missing : List Interface → List IfName → List IfName
 missing interfaces names = filter (λ name. not (has_interface interfaces name)) names

@@ -1,4 +1,4 @@
-//! What an operator is warned of at the end of a run.
+//! What an operator is warned of at the end of a run. A helper of `pfr_cli`.
 //!
 //! A [`Watch`] is told of each packet that is taken, and counts what may mean that the run doesn't fit its captures: packets that go
 //! one way alone, that belong to connections begun before the capture, or that are skipped, and states that a limit refused.

@@ -12,7 +12,7 @@ const ACK: u8 = 16;
 
 /// Whether a packet is one of a TCP connection that began before it, and no state was met.
 ///
-/// It counts if a rule blocks it or if it makes a state. One that a rule without state lets pass is as good as any other.
+/// It counts if a rule blocks it or if it makes a state. One that a rule without state lets pass doesn't count.
 #[tactic(auto, unfolding(crate::specs::Midway::is_midway))]
 pub fn is_midway(view: &View, outcome: &Outcome) -> bool
     ensures { result ≡ spec.is_midway view.now outcome.now }

@@ -51,7 +51,7 @@ pub(crate) fn is_among(names: &[IfName], name: &IfName) -> bool
     names.iter().any(|other| is_named(other, name))
 }
 
-/// Adds the interface that is asked for, if it isn't there.
+/// Adds the interface that `asked` names, if there is one and it isn't there.
 fn add(names: &mut Vec<IfName>, asked: Option<InterfaceCriterion>) -> Result<(), AllocError>
     ensures order { OnOk result (names.new.items ≡ spec.with_asked names.old.items asked) }
     ensures gained { OnOk result (spec.Gains names.old.items names.new.items (λ name. spec.asks_for name asked)) }
@@ -104,7 +104,7 @@ fn has_interface(interfaces: &[Interface], name: &IfName) -> bool
         .any(|interface| is_named(&interface.name, name))
 }
 
-/// Those of some names that no interface of a run has.
+/// The names in a list that no interface of a run has.
 pub(crate) fn missing(
     alloc: Global,
     interfaces: &[Interface],

@@ -109,7 +109,7 @@ fn in_loopback(bytes: &[u8]) -> SkippedAs
     }
 }
 
-/// Whether an address family is that of IPv6 on one of the systems that capture so.
+/// Whether an address family is IPv6's on one of the systems that capture BSD loopback.
 fn is_ipv6_family(family: u32) -> bool
     ensures { result ≡ spec.is_ipv6_family family }
 {

@@ -8,7 +8,7 @@ use pfr_ruleset::Ruleset;
 use std::alloc::{AllocError, Global};
 use std::io::Write;
 
-/// Watches the packets of a run, if it is asked to.
+/// Watches the packets of a run, if warnings are wanted.
 #[derive(Drop)]
 pub struct Watch {
     tally: Option<Tally>,
@@ -23,7 +23,7 @@ impl Gate for Watch {
 }
 
 impl Watch {
-    /// Watches a run through a ruleset, or nothing, if nobody asks for warnings.
+    /// Watches a run through a ruleset, or nothing, if no warnings are wanted.
     pub fn new(alloc: Global, rules: &Ruleset, warns: bool) -> Result<Watch, AllocError> {
         if !warns {
             return Ok(Watch { tally: None });

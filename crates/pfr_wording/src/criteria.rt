@@ -1,4 +1,4 @@
-//! What a rule asks of a packet, in words.
+//! The criteria of a rule, in words.
 use pfr_net::{Net, Protocol};
 use pfr_ruleset::{
     Comparison, HostCriterion, HostSet, InterfaceCriterion, PacketMatch, PortMatch, RangeOperator,
@@ -103,7 +103,7 @@ fn is_address(host: &HostCriterion) -> bool {
     }
 }
 
-/// Whether nothing is asked of an end.
+/// Whether an end may be any host with any port.
 fn is_anyone(host: &HostCriterion, ports: Option<PortMatch>) -> bool {
     let is_any = match host.hosts {
         HostSet::Any => true,
@@ -113,7 +113,7 @@ fn is_anyone(host: &HostCriterion, ports: Option<PortMatch>) -> bool {
 }
 
 impl Wording<'_> {
-    /// Appends the table at a place, the first of which is that of the interfaces' own addresses.
+    /// Appends the table at a place. The first place has the interfaces' own addresses.
     fn append_table(&self, text: &mut Vec<u8>, place: usize) -> Result<(), AllocError> {
         if place == 0 {
             return text.extend_from_slice(b"self");
@@ -159,7 +159,7 @@ impl Wording<'_> {
         }
     }
 
-    /// Appends both ends, or ` all` if nothing is asked of them.
+    /// Appends both ends, or ` all` if both may be any.
     fn append_ends(&self, text: &mut Vec<u8>, packet: &PacketMatch) -> Result<(), AllocError> {
         if is_anyone(&packet.source, packet.source_port)
             && is_anyone(&packet.destination, packet.destination_port)
@@ -170,7 +170,8 @@ impl Wording<'_> {
         self.append_end(text, b" to ", &packet.destination, packet.destination_port)
     }
 
-    /// Appends what stands before the hosts: interface, `inet` and protocol. An address may stand behind the hosts.
+    /// Appends what stands before the hosts: interface, `inet` and protocol. `has_address` says that an address stands
+    /// behind the hosts.
     fn append_link(
         &self,
         text: &mut Vec<u8>,
@@ -189,7 +190,7 @@ impl Wording<'_> {
         }
     }
 
-    /// Appends what is asked of a packet but for its ICMP type. An address may stand behind it.
+    /// Appends the criteria of a packet but for its ICMP type. `has_address` says that an address stands behind them.
     pub(crate) fn append_criteria(
         &self,
         text: &mut Vec<u8>,

@@ -48,7 +48,7 @@ pub fn append_letters(text: &mut Vec<u8>, flags: FlagSet) -> Result<(), AllocErr
     Ok(())
 }
 
-/// Appends the flags that a rule asks for, where they are others than those of a rule that writes none.
+/// Appends the flags that a rule asks for, if they are others than those of a rule that writes none.
 fn append_flags(text: &mut Vec<u8>, rule: &FlatRule) -> Result<(), AllocError> {
     match rule.flags {
         FlagsCriterion::Default => Ok(()),

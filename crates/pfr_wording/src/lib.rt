@@ -1,9 +1,10 @@
 //! The rules of a ruleset, one by one, in the words of pf.conf(5).
 //!
-//! [`in_words`] writes each rule that the lists of a text make, and each anchor round them, on a line of its own. What comes of it is the
-//! text of a ruleset. It is read again and compared with the rules that were written, so proved is that it means just those:
-//! whatever writes it, no rule is told otherwise than it is. That each rule which a text can mean is written is tested
-//! (`tests/telling`), and so is how [`Rules`] are printed: with their numbers, the lines of their file and what a run counted.
+//! A helper of `pfr_diff`, `pfr_show`, `pfr_report` and `pfr_views`. [`in_words`] writes each rule that the lists of a
+//! text make, and each anchor round them, on a line of its own. The result is the text of a ruleset. It is read again
+//! and compared with the rules that were written, so it is proved that it means just those: whatever writes it, no rule
+//! is told otherwise than it is. It is tested that each rule which a text can mean is written (`tests/telling`), and
+//! how [`Rules`] are printed: with their numbers, the lines of their file and what a run counted.
 #![tactic(auto)]
 
 mod again;

@@ -11,7 +11,7 @@ fn is_end(word: &Word<'_>) -> bool {
     }
 }
 
-/// Whether a word is `log`. It is no name of a label then, which stands between quotes.
+/// Whether a word is `log`. The name of a label isn't: it stands between quotes.
 fn is_log(word: &Word<'_>) -> bool {
     match &word.token {
         Token::Plain(bytes) => bytes.as_slice() == b"log".as_slice(),
@@ -30,7 +30,8 @@ fn note(lines: &mut Vec<bool>, line: usize) -> Result<(), AllocError> {
     Ok(())
 }
 
-/// For each line of a text, whether the statement that begins there says `log`. Line 0 is none, and the last lines may be missing.
+/// For each line of a text, whether the statement that begins there says `log`. There is no line 0, and the last lines
+/// may be missing.
 pub(crate) fn logged_lines(alloc: Global, text: &[u8]) -> Result<Vec<bool>, AllocError> {
     let found = words(alloc, text)?;
     let mut lines = Vec::new(alloc);

@@ -18,7 +18,7 @@ pub struct RuleTold<'a> {
     pub words: &'a [u8],
     /// The line of the ruleset's file on which it stands, from 1.
     pub line: usize,
-    /// Whether it says `log`. No translation rule is said to.
+    /// Whether it says `log`. This is false for translation rules.
     pub is_logged: bool,
 }
 
@@ -110,8 +110,8 @@ fn push_line<'a>(lines: &mut Vec<&'a [u8]>, line: &'a [u8], more: usize) -> Resu
     Ok(())
 }
 
-/// The lines of a text, without their newlines, each at the place of its number. A line goes on behind a newline with a backslash
-/// before it, as a label may; nothing is at the places of the lines with which it goes on.
+/// The lines of a text, without their newlines, each at the place of its number. A line goes on behind a newline with a
+/// backslash before it, as a label may; nothing is at the places of the lines with which it goes on.
 fn lines_of_text<'a>(alloc: Global, text: &'a [u8]) -> Result<Vec<&'a [u8]>, AllocError> {
     let mut lines = Vec::new(alloc);
     let mut start = 0;
@@ -154,7 +154,7 @@ fn without_blanks(line: &[u8]) -> &[u8] {
     line
 }
 
-/// The rules that stand on these lines of the words, and on these lines of the file, and whether they say `log`.
+/// The rules on the lines `places` of the words and the lines `lines` of the file, and whether they say `log`.
 fn told_at<'a>(
     alloc: Global,
     words: &[&'a [u8]],
@@ -197,7 +197,7 @@ fn append_place(text: &mut Vec<u8>, lines: &[usize], number: usize) -> Result<()
     text.extend_from_slice(b" ")
 }
 
-/// Whether packets can count for a rule of these words: for one that translates nothing none do.
+/// Whether packets can count for a rule of these words: none count for a rule that translates nothing.
 fn may_count(words: &[u8]) -> bool {
     !without_blanks(words).starts_with(b"no ")
 }
@@ -221,7 +221,7 @@ fn append_counted(text: &mut Vec<u8>, counted: &Counted) -> Result<(), AllocErro
     text.extend_from_slice(b" bytes")
 }
 
-/// Appends `shadowed by @N` behind what parts it from what stands before.
+/// Appends `parting` and `shadowed by @N`, if the rule is shadowed.
 fn append_shadow(text: &mut Vec<u8>, parting: &[u8], by: Option<usize>) -> Result<(), AllocError> {
     match by {
         Some(by) => {
@@ -271,7 +271,7 @@ fn counted_at(counts: Option<&[Counted]>, number: usize) -> Option<&Counted> {
     counts?.get(number)
 }
 
-/// The number of the rule by which the one with a number is shadowed, if it is the first of these, which is then passed.
+/// The number of the rule that shadows rule `number`, if `number` is the first one of `shadows`, which is then passed.
 fn shadow_at(shadows: &mut &[Shadow], number: usize) -> Option<usize> {
     let (shadow, behind) = shadows.split_first()?;
     if shadow.rule != number {

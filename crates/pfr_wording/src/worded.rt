@@ -14,8 +14,8 @@ use std::alloc::{AllocError, Global};
 /// The rules of a ruleset in words.
 #[derive(Drop)]
 pub struct Worded {
-    /// The text of a ruleset: a line for each table, each translation rule, each filter rule, and the beginning and the end of each
-    /// anchor that stands round filter rules.
+    /// The text of a ruleset: a line for each table, each translation rule, each filter rule, and the beginning and the
+    /// end of each anchor that stands round filter rules.
     pub text: Vec<u8>,
     /// For each filter rule, by its number, the line of the text on which it stands, from 1.
     pub filter: Vec<usize>,
@@ -23,7 +23,7 @@ pub struct Worded {
     pub translations: Vec<usize>,
 }
 
-/// How many blanks a rule stands further in for each anchor round it.
+/// The blanks that indent a rule for each anchor round it.
 const INDENT: &[u8] = b"  ";
 
 /// Appends the definitions of tables without entries.
@@ -74,7 +74,7 @@ fn put_translations(
     Ok(())
 }
 
-/// Begins a line in so many anchors.
+/// Begins a line inside `depth` anchors.
 fn indent(text: &mut Vec<u8>, depth: usize) -> Result<(), AllocError> {
     for _ in 0..depth {
         text.extend_from_slice(INDENT)?;
@@ -152,7 +152,7 @@ struct Places {
     translations: Vec<usize>,
 }
 
-/// The lines on which the rules of a ruleset stand that was read again, if it has the same rules as the first one.
+/// The lines on which the rules of `again` stand, a ruleset that was read again, if it has the same rules as `first`.
 fn places_in(alloc: Global, first: &Ruleset, again: &Ruleset) -> Result<Option<Places>, AllocError>
     ensures same { IfOk result (λ places. IfSome places (λ _. spec.HaveSameRules first.now again.now)) }
     ensures lines { IfOk result (λ places. IfSome places (λ places. places.filter.items ≡ spec.lines_of again.now)) }
@@ -179,8 +179,8 @@ fn places_of(alloc: Global, ruleset: &Ruleset, text: &[u8]) -> Result<Option<Pla
     }
 }
 
-/// The rules of a ruleset in words, with the names of the tables that its text defines, in their order: a text that means a ruleset
-/// with the same rules, labels and anchors. None: what was written doesn't mean that.
+/// The rules of a ruleset in words, with the names of the tables that its text defines, in their order: a text that
+/// means a ruleset with the same rules, labels and anchors. The result is None if what was written doesn't mean that.
 pub fn in_words(
     alloc: Global,
     ruleset: &Ruleset,

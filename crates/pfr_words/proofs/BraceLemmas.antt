@@ -1,4 +1,4 @@
--- One word more of which it is known whether it is closed.
+-- One more word, of which it is known whether it is closed.
 use Rattle.std.proofs.Common.{◌≡◌, ◌<◌, ◌≤◌, ◌+◌, ◌-◌, ℕ, zero, suc, Bool, true, false, if◌then◌else◌, List, [], ◌∷◌, ◌++◌, length, take, drop, slice_set, slice_index_or, refl, ap, arith}
 use Rattle.pfr_words.specs.declared.word.Word.{Word}
 use Rattle.pfr_words.specs.declared.word.Token.{Token}

@@ -21,7 +21,7 @@ closers-append : (ws more : List Word) → closers ws ≤ closers (ws ++ more)
 closers-append [] more = omega arith
 closers-append (w ∷ ws) more = before_if (is_sign s.OpenBrace w.token) (is_sign s.CloseBrace w.token) (closers ws) (closers (ws ++ more)) (closers-append ws more)
 
--- a word that is no fault is none where more closing braces are behind it
+-- a word that is no fault is none if more closing braces are behind it
 kept_by : (opens : Bool) (behind more : ℕ) (w : Word) → is_sign s.OpenBrace w.token ≡ opens → behind ≤ more → closed_by behind w ≡ w → closed_by more w ≡ w
 kept_by false behind more w e below same = rw e refl
 kept_by true behind zero w e below same = let none : behind ≡ 0 = omega arith in rw none at same
@@ -62,7 +62,7 @@ last : (text : List ℕ) → slice_index text (length text - 1) ≡ last_of 0 te
 last [] = refl
 last (b ∷ text) = let e : suc (length text) - 1 ≡ length text = omega arith in rw e (last_is b text)
 
--- the words from a newline on, where it ends a line
+-- the words from a newline on that ends a line
 line_end : (line : ℕ) (text : List ℕ) → words_on line (pieces_from 0 (10 ∷ text)) ≡ record { line = line; token = t.LineEnd } ∷ words_on (line + 1) (pieces_from 0 text)
 unfolding piece_len token_of double_sign
 line_end line text = refl

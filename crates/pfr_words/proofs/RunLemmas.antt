@@ -7,7 +7,7 @@ use Rattle.pfr_words.specs.declared.cutting.Class.{Class}
 use Rattle.pfr_words.specs.declared.cutting.Class.TheVariants as class
 use Rattle.pfr_words.specs.Words.{begins_plain, double_sign, goes_on, is_plain, piece_len, quote_len, run_len, suffix_len, use_len}
 
--- the last byte of a text, where this one stands before it
+-- the last byte of a text, or `before` if the text is empty
 abbrev pub last_of : ℕ → List ℕ → ℕ
 last_of before [] = before
 last_of before (b ∷ text) = last_of b text
@@ -103,7 +103,7 @@ comment_joined before text more other = run_joined class.Comment before text mor
 run_in_quote_joined : (before : ℕ) (text more : List ℕ) → last_of before text ≢ 92 → run_len class.Quote before (text ++ 10 ∷ more) ≡ run_len class.Quote before text
 run_in_quote_joined before text more other = run_joined class.Quote before text more (λ next. ne_eqb (last_of before text) 92 other)
 
--- a newline is as good as no byte, where something else is looked for
+-- a newline is as good as no byte, if something else is looked for
 not_there : (text more : List ℕ) (n b : ℕ) → n ≤ length text → b ≢ 10 → b ≢ 0 → eqb (slice_index (text ++ 10 ∷ more) n) b ≡ eqb (slice_index text n) b
 not_there [] more zero b within ten null = rw (ne_eqb 10 b (λ e. ten (sym e)), ne_eqb 0 b (λ e. null (sym e))) refl
 not_there [] more (suc n) b within ten null = absurd (omega arith)

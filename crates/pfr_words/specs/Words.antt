@@ -65,7 +65,7 @@ goes_on class.Plain before b next = is_plain b && not (b == 45 && next == 62)
 goes_on class.Comment before b next = not (b == 10) || before == 92
 goes_on class.Quote before b next = not (b == 34) && (not (b == 10) || before == 92)
 
--- how long the run at the front is, where this byte stands before it
+-- how long the run at the front is, if the byte `before` stands before it
 abbrev pub run_len : Class → ℕ → List ℕ → ℕ
 run_len class before [] = 0
 run_len class before (b ∷ text) = if goes_on class before b (slice_index text 0) then 1 + run_len class b text else 0
@@ -94,7 +94,7 @@ piece_len text =
     else if is_some (double_sign a b) then 2
     else 1
 
--- the pieces of a text, of whose first bytes so many belong to the piece before
+-- the pieces of a text; its first `skipped` bytes belong to the piece before
 abbrev pub pieces_from : ℕ → List ℕ → List (List ℕ)
 pieces_from skipped [] = []
 pieces_from (suc skipped) (b ∷ text) = pieces_from skipped text
@@ -190,7 +190,7 @@ words text = with_braces (words_on 1 (pieces text))
 
 -- ---- words further down
 
--- the words, so many lines further down
+-- the words, `lines` lines further down
 abbrev pub moved : ℕ → List Word → List Word
 moved lines ws = map (λ (w : Word). record w { line = lines + w.line }) ws
 

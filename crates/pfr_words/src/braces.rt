@@ -15,8 +15,8 @@ pub fn is_sign(sign: Sign, token: &Token<'_>) -> bool
     }
 }
 
-/// Makes an open brace a fault where nothing behind it closes it; answers how many closing braces the words from
-/// this one on have to spare.
+/// Makes an opening brace a fault if nothing behind it closes it; answers how many braces the words from this one on
+/// close that they don't open. `behind` is that number for the words behind this one.
 fn close_brace(word: &mut Word<'_>, behind: usize) -> usize
     requires { behind < 4611686018427387904 }
     ensures word { word.new ≡ spec.closed_by behind word.old }
@@ -36,7 +36,7 @@ fn close_brace(word: &mut Word<'_>, behind: usize) -> usize
     behind - 1
 }
 
-/// Makes each brace a fault that nothing behind it closes.
+/// Makes each opening brace that nothing behind it closes a fault.
 pub(crate) fn close_braces(words: &mut [Word<'_>])
     ensures { words.new ≡ spec.with_braces words.old }
 {

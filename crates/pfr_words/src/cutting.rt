@@ -61,7 +61,7 @@ fn goes_on(class: Class, before: u8, byte: u8, next: u8) -> bool
     }
 }
 
-/// How many bytes at the front are of a run, where `before` stands before them.
+/// How many bytes at the front belong to a run, if the byte `before` stands before them.
 pub(crate) fn run_len(class: Class, before: u8, text: &[u8]) -> usize
     ensures value { result ≡ spec.run_len class before text.now }
     ensures within { result ≤ length text.now }

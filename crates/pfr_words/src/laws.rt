@@ -9,10 +9,10 @@ pub fn pieces_are_the_text()
     ensures some { (text : List ℕ) → All (λ piece. 1 ≤ length piece) (pieces text) }
 {}
 
-/// The words of a text are those of its lines, one after another: where a text is put behind another and a newline
-/// is between the two, each is read as it is alone, and the words of the second stand so many lines further down. A
-/// comment or a quote that is open where the first ends goes no further. The first may not end in a backslash, which
-/// would make the newline no end of the line, and each brace that it opens has to be closed in it.
+/// The words of a text are those of its lines, one after another. If a newline stands between two texts, each is read
+/// as it is alone, and the words of the second stand further down by the lines of the first. A comment or a quote that
+/// is open at the end of the first goes no further. The first may not end in a backslash, which would make the newline
+/// no end of the line, and each brace that it opens has to be closed in it.
 pub fn words_of_joined_texts()
     ensures { (first second : List ℕ) → IsWhole first → words (joined first second) ≡ words_in_turn first second }
 {}

@@ -1,8 +1,8 @@
 //! The words of a ruleset text, as pf.conf(5) is written.
 //!
-//! [`words`] cuts a text into words with their lines. It refuses nothing but for want of memory: what is no
-//! word is a word too, [`Token::Bad`], so that the reader of the words meets the faults in the order of the
-//! text. [`Bytes`] is a part of a text as contracts see it.
+//! [`words`] cuts a text into words with their lines. It fails only for want of memory: a part that is no word
+//! becomes a [`Token::Bad`], so that the reader of the words meets the faults in the order of the text.
+//! [`Bytes`] is a part of a text as contracts see it.
 #![tactic(auto)]
 
 pub mod braces;

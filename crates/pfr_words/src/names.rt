@@ -148,7 +148,7 @@ pub const ICMP_TYPES: [(&[u8], u8); 6] = [
     (b"paramprob", 12),
 ];
 
-/// Whether the word is one of the words.
+/// Whether `word` is one of `words`.
 pub fn is_among(words: &[&[u8]], word: &[u8]) -> bool
     ensures { result ≡ spec.is_among (map (λ w. w.now) words.now) word.now }
 {
@@ -160,7 +160,7 @@ pub fn is_among(words: &[&[u8]], word: &[u8]) -> bool
     false
 }
 
-/// What a table has at the word.
+/// What a table has for a word.
 pub fn entry_of<T: Copy>(table: &[(&[u8], T)], word: &[u8]) -> Option<T>
     ensures { result ≡ spec.entry_of (map (λ e. (e.0.now, e.1)) table.now) word.now }
 {

@@ -45,7 +45,7 @@ no_more number [] worker = omega arith
 no_more number (list ∷ lists) zero = omega (arith, times_append number list (concat lists))
 no_more number (list ∷ lists) (suc worker) = let rest = no_more number lists worker in omega (arith, times_append number list (concat lists))
 
--- where it stands once in all together, no list but the first that has it has it
+-- if a number stands once in all lists together, only the first list that has it has it
 drawn_by : (number : ℕ) (lists : List (List ℕ)) (worker : ℕ) → times number (concat lists) ≡ 1 → Tells (drawer_of number lists == worker) number (get_or lists worker [])
 drawn_by number [] worker once = absurd (omega (arith, once))
 drawn_by number (list ∷ lists) zero once =
@@ -110,7 +110,7 @@ tells_rest test number first numbers above tells = elim tells [
   | inr gone ↦ inr (gone.0, (let none = gone.1 in grind (arith, nat_tests)))
 ]
 
--- of all numbers a test keeps a list that rises, where it tells of each whether it stands in that list
+-- a test keeps the numbers of a rising list, if it tells of each number whether the list has it
 kept_is : (test : ℕ → Bool) (low count : ℕ) (numbers : List ℕ) (high : ℕ) → low + count ≡ high → Rises low numbers high → ((number : ℕ) → low ≤ number → number < high → Tells (test number) number numbers)
     → filter test (range_with_len low count) ≡ numbers
 kept_is test low zero [] high is rises tells = refl

@@ -39,16 +39,16 @@ module _ {J K : Type 0} {o : runs.Ghosts J} {t : tables.Ghosts J} {n : naming.Gh
   abbrev pub workers_in : OpenBatch K (Batch J o t n) (FoundOut J o t n) k → ℕ
   workers_in it = it.workers
 
-  -- the batch that was opened is behind those before, and none is if memory was refused
+  -- the opened batch stands behind the earlier ones; if memory was refused, none is added
   abbrev pub OpensOne : {E : Type 0} → (old new : List claims.Batch) → Result (OpenBatch K (Batch J o t n) (FoundOut J o t n) k) E → Type 0
   OpensOne old new opened = MatchResult opened (λ it. new ≡ old ++ claims_in it ∷ []) (λ _. new ≡ old)
 
 module _ {J K F : Type 0} {o : runs.Ghosts J} {t : tables.Ghosts J} {n : naming.Ghosts J} {k : naming.Ghosts K} where
-  -- with the packets that were taken, those of the batches that wait are at most as many as were given
+  -- the packets that were taken and those of the waiting batches are at most `given`
   abbrev pub FitsIn : (given workers : ℕ) → Run J K F o t n k → Type 0
   FitsIn given workers run = Fits run.waiting.items records_in count_in workers_in run.book.count given workers
 
-  -- for any number of workers for which they did before
+  -- `new` fits for each number of workers for which `old` did
   abbrev pub StillFit : (given given' : ℕ) → (old new : Run J K F o t n k) → Type 0
   StillFit given given' old new = (workers : ℕ) → FitsIn given workers old → FitsIn given' workers new
 

@@ -31,14 +31,15 @@ pub record IsShownBy (it : Option Gathered) (records : List Record) (batch : Bat
   pub count_is : batch.count ≡ length records
   pub entry : (entry : Gathered) → it ≡ Some entry → IsEntry entry batch
 
--- batches one by one, with what came back of each; of those that weren't opened nothing did
+-- batches one by one, with what came back of each; nothing came back of those that weren't opened
 abbrev pub AreShownBy : List (Option Gathered) → List (List Record) → List Batch → Type 0
 AreShownBy returns [] [] = Unit {0}
 AreShownBy [] (records ∷ given) (batch ∷ batches) = IsShownBy None records batch × AreShownBy [] given batches
 AreShownBy (it ∷ returns) (records ∷ given) (batch ∷ batches) = IsShownBy it records batch × AreShownBy returns given batches
 AreShownBy returns given batches = ⊥
 
--- a state of the machine that is the end of a run with this trace, after `committed` packets, of which `published` are published
+-- a state of the machine that is the end of a run with this trace, after `committed` packets, of which `published` are
+-- published
 pub record IsEndWith (job : RunJob) (workers : ℕ) (calls : List Call) (seen : Seen) (committed published : ℕ) (machine : Machine) : Type 0 where
   pub is_end : IsEnd job (packets_of (given_in calls)) workers machine
   pub committed_is : machine.committed ≡ committed

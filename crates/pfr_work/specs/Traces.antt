@@ -1,5 +1,5 @@
--- What a run with workers leaves beside its outputs: which batches were opened, what came back of them, and how far the table was
--- published.
+-- What a run with workers leaves beside its outputs: which batches were opened, what came back of them, and how far the
+-- table was published.
 use Rattle.std.specs.Prelude.{◌≡◌, ◌⊎◌, ◌≤◌, ◌<◌, ◌+◌, ℕ, Bool, true, false, List, [], ◌∷◌, ◌++◌, length, map, take, Option, Some, None, IfSome, IsSome}
 use Rattle.std.specs.List.{AllZip, flat_map}
 use Rattle.pfr_claims.specs.declared.gathered.Gathered.{Gathered}
@@ -20,7 +20,7 @@ use Rattle.pfr_feed.specs.Transitions.{Transitions}
 abbrev pub IsOpenedFor : ℕ → Batch → List Record → Type 0
 IsOpenedFor workers batch records = (batch.sizes.count ≡ length records) × (batch.sizes.workers ≡ workers)
 
--- of which batches entries are
+-- the batches of entries
 abbrev pub batches_of : List Gathered → List Batch
 batches_of entries = map (λ entry. entry.claims.value) entries
 
@@ -30,7 +30,7 @@ found [] = []
 found (None ∷ returns) = found returns
 found (Some entry ∷ returns) = entry ∷ found returns
 
--- the batches that didn't
+-- the batches whose passes didn't all come back
 abbrev pub missing : List Batch → List (Option Gathered) → List Batch
 missing [] returns = []
 missing (batch ∷ batches) [] = []
@@ -58,15 +58,15 @@ pub record CameBack (batches : List Batch) (entries : List Gathered) (lost : Lis
 abbrev pub packets_of : List (List Record) → List Frame
 packets_of batches = flat_map (λ records. map frame_of records) batches
 
--- what a trace shows of a run by these calls: of the batches that were opened some may still be open, and the table shows what the first
--- `published` packets did to it
+-- what a trace shows of a run by these calls: of the batches that were opened some may still be open, and the table
+-- shows what the first `published` packets did to it
 pub record IsTrace (job : RunJob) (workers : ℕ) (calls : List Call) (opened : List Batch) (entries : List Gathered) (lost : List Incomplete) (still_open : List Batch) (handed published : ℕ) (shown : Option (List Change)) : Type 0 where
   -- the batches that were opened are the first of those that were given
   pub opens : AllZip (IsOpenedFor workers) opened (take (length opened) (given_in calls))
   pub back : List Batch
   pub opened_are : opened ≡ back ++ still_open
   pub came : CameBack back entries lost
-  -- of those whose pieces were handed to the feed, all came back
+  -- all batches whose pieces were handed to the feed came back
   pub whole : take handed (batches_of entries) ≡ take handed opened
   pub shows : IfSome shown (λ changes. changes ≡ (world_of job (take published (packets_of (given_in calls)))).changes)
 
@@ -104,7 +104,8 @@ pub record CutWith {F : Type 0} (feeds : Transitions F) (job : RunJob) (workers 
   pub trace : Traces job workers calls seen (length (taken_in calls) + 1) at.world.count
   pub is_shown : IsShown workers seen
 
--- memory was refused: at most what was done by the packets before was published; there is no table only if that was refused
+-- memory was refused: at most what was done by the packets before was published; there is no table only if that was
+-- refused
 pub record RefusedWith {F : Type 0} (job : RunJob) (workers : ℕ) (book : Book) (feed : F) (seen : Seen) (calls : List Call) (at : Point F) : Type 0 where
   pub refused : Refused book feed at
   pub published : ℕ

@@ -19,8 +19,8 @@ use Rattle.pfr_work.specs.Traces.{CameBack, IsOpenedFor, IsTrace, batches_of}
 
 -- ---- batches that wait
 
--- Batches that wait, of which these are the records, the counts and the numbers of workers: with the packets that were taken they are at
--- most as many as were given.
+-- Batches that wait, with their records, their counts and their numbers of workers. Together with the packets that were
+-- taken they have at most `given` packets.
 pub record Fits {X : Type 0} (waiting : List X) (records_of : X → List Record) (count_of workers_of : X → ℕ) (count given workers : ℕ) : Type 0 where
   pub few : count + sum_by count_of waiting ≤ given
   pub most : (waiting ≡ []) ⊎ (given ≤ 2 ^ 43)
@@ -43,8 +43,8 @@ Extends {A} old new = (more : List A) × (new ≡ old ++ more)
 
 -- ---- turns
 
--- How far a run has come between two turns: each batch that was given was opened, those that were taken came back whole, and the
--- table shows what all packets did to it that were taken.
+-- How far a run has come between two turns: each batch that was given was opened, and those that were taken came back
+-- whole. The table shows what all packets that were taken did to it.
 pub record SoFar {F : Type 0} (feeds : Transitions F) (job : RunJob) (workers : ℕ) (start : F) (book : Book) (feed : F) (waiting : List (List Record)) (is_over : Bool) (opened : List Batch) (entries : List Gathered) (lost : List Incomplete) (still_open : List Batch) (shown : List Change) : Type 0 where
   pub calls : List Call
   pub world : World

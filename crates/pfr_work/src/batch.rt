@@ -15,13 +15,13 @@ use pfr_track::Clock;
 use std::alloc::{AllocError, Global};
 use std::thread::Threads;
 
-/// What the workers of a batch share of it.
+/// What the workers of a batch share.
 #[derive(Drop)]
 pub(crate) struct Batch<J: OfRun> {
     pub(crate) packets: Packets,
     /// The clock at each record.
     pub(crate) clocks: Vec<Clock>,
-    /// The number of the first packet, and how many packets are evaluated ahead, the first ones.
+    /// The number of the first packet, and how many packets, from the first on, are evaluated ahead.
     pub(crate) first: u64,
     pub(crate) most: u64,
     /// How far the published table had come when the batch was opened.
@@ -29,7 +29,7 @@ pub(crate) struct Batch<J: OfRun> {
     pub ghost viewed: { All (λ packet. packet.1 ≡ view_of packet.0.link packet.0.bytes.items) packets.items },
 }
 
-/// Records, each with its view, which was made before.
+/// Records, each with its view from `views`.
 pub(crate) fn with_views(
     alloc: Global,
     records: Vec<Record>,
@@ -48,7 +48,7 @@ pub(crate) fn with_views(
     Ok(packets)
 }
 
-/// Records, each with its view, which are made by as many threads as there are processors.
+/// Records, each with its view. As many threads as there are processors make the views.
 fn viewed_beside<R: Threads + Sync>(
     rt: &R,
     alloc: Global,
@@ -60,7 +60,8 @@ fn viewed_beside<R: Threads + Sync>(
     with_views(alloc, records, views.as_slice())
 }
 
-/// Records, each with its view. The calling thread makes all views if no worker evaluates any of them.
+/// Records, each with its view. The calling thread makes all views if `most` is 0, so that no worker evaluates any of
+/// them.
 pub(crate) fn viewed_for<R: Threads + Sync>(
     rt: &R,
     alloc: Global,
@@ -76,7 +77,7 @@ pub(crate) fn viewed_for<R: Threads + Sync>(
     }
 }
 
-/// The clock at each record after one: the greatest second so far.
+/// The clock at each record after `clock`: the greatest second so far.
 pub(crate) fn clocks(
     alloc: Global,
     clock: Clock,

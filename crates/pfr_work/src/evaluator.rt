@@ -19,8 +19,8 @@ use std::marker::PhantomData;
 use std::sync::Arc;
 use std::sync::atomic::{AtomicBool, Ordering};
 
-/// The most questions of a result that is kept. A pick among taken ports asks one for each of them, and such a record is large: the
-/// committer evaluates its packet.
+/// The most questions of a result that is kept. A pick among taken ports asks one question for each port, and such a
+/// record is large. The committer then evaluates the packet.
 const MOST_QUESTIONS: usize = 1024;
 
 /// What a worker evaluates packets with: the job, the published table that it looks at, and the gate.
@@ -59,8 +59,8 @@ impl<'a, J: OfRun, G> Evaluator<'a, J, G> {
         })
     }
 
-    /// What is found out about the packet at a place, on the table that is published: nothing if the worker is shown none. It
-    /// knows at least what it was told with the batch.
+    /// The speculation of the packet at `place`, evaluated on the published table; none if the worker is shown no
+    /// table. The worker knows at least what it was told with the batch.
     fn speculation_at(&mut self, batch: &Batch<J>, place: u64) -> Option<Speculation>
         requires { HasLearned self.old.viewer batch.now.told }
         ensures own { IfSome result (λ speculation. J.job ≡ Some (arc_value speculation.job)) }

@@ -1,4 +1,4 @@
-//! What workers find out about packets, known to be of the run's job.
+//! What workers find out about packets of the run's job.
 ghost use Rattle.std.specs.Prelude.{◌≡◌, Some};
 ghost use Rattle.std.specs.Arc.{arc_value};
 ghost use Rattle.std.specs.List.{All};
@@ -7,8 +7,9 @@ use pfr_published::TableNaming;
 use pfr_record::Speculation;
 use std::marker::{Brand, PhantomData};
 
-/// Names a run, to contracts alone: its job, the list of what its packets do to the table, and how many states the table may have.
-/// What crosses from a worker to the committer is known by its type to be of it. A call of a program picks all three.
+/// Names a run, to contracts alone: its job, the list of changes that its packets make to the table, and how many
+/// states the table may have. What crosses from a worker to the committer has this name in its type, so it is of the
+/// same run. A call of a program picks all three.
 pub trait OfRun: TableNaming {
     ghost use Rattle.std.specs.Prelude.{Option};
     ghost use Rattle.pfr_packet.specs.Job.{RunJob};

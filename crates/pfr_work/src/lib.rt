@@ -1,7 +1,7 @@
 //! Runs of batches: each batch is evaluated ahead by workers, and taken in order by the calling thread.
 //!
-//! [`run_workers`] is the run. The laws say what it comes to: a state of the speculative machine, to which a list of events leads
-//! from the start.
+//! A helper of `pfr_out`. [`run_workers`] is the run. The laws say what it comes to: a state of the speculative
+//! machine, to which a list of events leads from the start.
 #![tactic(auto)]
 
 mod batch;

@@ -1,18 +1,21 @@
-//! When workers rest or are given up, how many of them are given a batch, and how many of its packets they evaluate ahead.
+//! When workers rest or are given up, how many of them are given a batch, and how many of its packets they evaluate
+//! ahead.
 //!
-//! The answers depend on what batches came to, and on no clock. So what things cost is reckoned in rules: as long as asking a packet
-//! one rule takes: 31 ns on the machine of the last measurements (`bench/README.md`, `ranges`), and about 16 ns on one of twice its
-//! speed. A rule that is passed over takes next to nothing.
+//! The answers depend on what batches came to, and on no clock. So costs are counted in rules: one rule is the time
+//! that it takes to test it on a packet. It is 31 ns on the machine of the last measurements (`bench/README.md`,
+//! `ranges`), and about 16 ns on one of twice its speed. A rule that is passed over takes next to nothing.
 
 // What things cost, in rules.
 
 /// Handing a result over: 23 rules were measured, and the rest is a margin.
 const HANDING: u64 = 30;
 
-/// Having a worker begin a batch, which is reckoned as 12 us: it is woken, and may take the processor of the calling thread.
+/// Having a worker begin a batch, which is reckoned as 12 us: it is woken, and may take the processor of the calling
+/// thread.
 const STARTING: u64 = 750;
 
-/// Showing workers a change of the table: two more copies take it over. If many packets change it, that is a third of a run's time.
+/// Showing workers a change of the table: two more copies take it over. If many packets change it, that is a third of a
+/// run's time.
 const SHOWING: u64 = 50;
 
 /// Evaluating a packet ahead, beside its own rules.
@@ -21,25 +24,27 @@ const EVALUATING: u64 = 50;
 /// Taking over a packet whose result holds. It takes somewhat less, but one worker too many slows all threads down.
 const TAKING: u64 = 50;
 
-/// What a packet that changes the table takes beside. If each packet makes a state after 1000 rules, three workers keep up: on four
-/// processors the run is 2.6 times as quick as without workers, and 2.4 times with a fourth one.
+/// The further cost of a packet that changes the table. If each packet makes a state after 1000 rules, three workers
+/// keep up: on four processors the run is 2.6 times as quick as without workers, and 2.4 times with a fourth one.
 const CHANGING: u64 = 150;
 
 // Numbers of packets.
 
-/// The packets that are evaluated ahead before it is judged whether that pays. A trial that doesn't pay is lost, so they are few.
+/// The packets that are evaluated ahead before it is judged whether that pays. A trial that doesn't pay is lost, so
+/// they are few.
 const TRIAL: u64 = 256;
 
-/// The packets of the first rest. The table is shown meanwhile, in vain if workers are given up after it, so they are few.
+/// The packets of the first rest. The table is shown meanwhile, in vain if workers are given up after it, so they are
+/// few.
 const FIRST_REST: u64 = 1024;
 
-/// How many times as long as the one before a rest is.
+/// How many times as long as the rest before it a rest is.
 const GROWTH: u64 = 4;
 
 /// The packets of the longest rest. A long run that workers don't serve tries them with one packet in a thousand.
 const LONGEST_REST: u64 = 262_144;
 
-/// The packets that have to come before the number of rules that a packet is asked about is estimated anew.
+/// The packets that have to come before the number of rules tested on a packet is estimated again.
 const LOOKS: u64 = 8;
 
 /// Many packets change the table if one in eight does.
@@ -59,28 +64,29 @@ pub struct BatchReport {
     pub rerun: u64,
     /// How many changes of the table they made.
     pub changes: u64,
-    /// How many rules were asked about them, in all. A rule that is passed over costs nothing, and isn't counted.
+    /// How many rules were tested on them, in all. A rule that is passed over costs nothing, and isn't counted.
     pub asked_rules: u64,
 }
 
 /// Says of each batch how many of its packets workers evaluate ahead, and how many workers do.
 ///
-/// A result that holds saves asking the rules. But each result has to be handed over, each worker has to begin each batch, and each
-/// change of the table has to be shown. So workers pay if packets are asked about many rules and results hold. They don't if packets
-/// match states that packets of the same batch change. After a batch that didn't pay workers rest, and are tried again after that.
-/// Once a batch has paid, the next one is given to the fewest workers that keep up with the committer.
+/// A result that holds saves testing the rules. But each result has to be handed over, each worker has to begin each
+/// batch, and each change of the table has to be shown. So workers pay if many rules are tested on a packet and results
+/// hold. They don't if packets match states that packets of the same batch change. After a batch that didn't pay
+/// workers rest, and are tried again after that. Once a batch has paid, the next one is given to the fewest workers
+/// that keep up with the committer.
 ///
-/// If the ruleset has too few rules for workers, they are given up as soon as they are judged. The table that they look at takes each
-/// change while they rest, too. So if many packets change it, they are given up once enough packets have come to tell: at once if
-/// they never paid, else after they didn't pay twice.
+/// If the ruleset has too few rules for workers, they are given up as soon as they are judged. The table that they look
+/// at takes each change while they rest, too. So if many packets change it, they are given up once enough packets have
+/// come to tell: at once if they never paid, else after they didn't pay twice.
 #[derive(Clone, Copy)]
 pub struct Pace {
     workers: u64,
     /// The number of rules of the ruleset.
     rules: u64,
-    /// How many rules a packet is asked about: all of them until batches have told.
+    /// How many rules are tested on a packet: all of them until batches have told.
     asked: u64,
-    /// The packets that came since `asked` was estimated last, and how many rules they were asked about in all.
+    /// The packets that came since `asked` was estimated last, and how many rules were tested on them in all.
     seen_packets: u64,
     seen_rules: u64,
     /// How many packets were evaluated ahead so far.
@@ -99,8 +105,8 @@ pub struct Pace {
     given_up: bool,
 }
 
-/// The fewest workers that evaluate the packets of a batch more quickly than the committer takes them over, if each packet is asked
-/// about `asked` rules.
+/// The fewest workers that evaluate the packets of a batch more quickly than the committer takes them over, if `asked`
+/// rules are tested on each packet.
 fn fewest_for(asked: u64, batch: BatchReport) -> u64 {
     let evaluating = asked
         .saturating_add(EVALUATING)
@@ -142,8 +148,8 @@ impl Pace {
         self.given_up || self.resting > 0
     }
 
-    /// How many packets of the next batch are evaluated ahead at most, its first ones: none while workers rest, 256 until it is
-    /// known that workers pay, and then all.
+    /// How many packets of the next batch are evaluated ahead at most, its first ones: none while workers rest, 256
+    /// until a batch has shown that workers pay, and then all.
     pub fn ahead(&self) -> u64 {
         if self.rests() {
             0
@@ -159,8 +165,8 @@ impl Pace {
         if self.rests() { 0 } else { self.needed }
     }
 
-    /// Whether no batch is opened after those that are open, which have `open_packets` packets in all. If it isn't known whether
-    /// workers pay, 256 packets tell.
+    /// Whether no further batch is opened while the open ones have `open_packets` packets in all. As long as it isn't
+    /// known whether workers pay, 256 packets tell.
     pub fn waits(&self, open_packets: u64) -> bool {
         !self.pays && open_packets >= TRIAL
     }
@@ -180,7 +186,7 @@ impl Pace {
         }
     }
 
-    /// Estimates how many rules a packet is asked about, if enough packets have come since that was done last.
+    /// Estimates how many rules are tested on a packet, if enough packets have come since that was done last.
     fn estimate(&mut self, batch: BatchReport) {
         self.seen_packets = self.seen_packets.saturating_add(batch.packets);
         self.seen_rules = self.seen_rules.saturating_add(batch.asked_rules);
@@ -205,13 +211,14 @@ impl Pace {
         self.changed = 0;
     }
 
-    /// What a result that holds saves, in rules, if a packet is asked about `asked` rules. The committer could ask as many as one
-    /// worker meanwhile, so one worker alone saves nothing.
+    /// What a result that holds saves, in rules, if `asked` rules are tested on a packet. The committer could test as
+    /// many as one worker meanwhile, so one worker alone saves nothing.
     fn saves(&self, asked: u64) -> u64 {
         asked.saturating_sub(asked / self.workers.max(1))
     }
 
-    /// Whether it pays to evaluate a whole batch ahead, if as large a share of its results holds as of those that were.
+    /// Whether it pays to evaluate a whole batch ahead, if the same share of results holds as of those evaluated in
+    /// `batch`.
     fn pays_for(&self, batch: BatchReport) -> bool {
         let handing = batch.packets.saturating_mul(HANDING);
         let starting = self.needed.saturating_mul(STARTING);
@@ -224,12 +231,12 @@ impl Pace {
         saved >= batch.evaluated_ahead.saturating_mul(costs)
     }
 
-    /// Whether the ruleset has enough rules that workers may pay.
+    /// Whether the ruleset has enough rules for workers to pay.
     fn may_pay(&self) -> bool {
         self.saves(self.rules) >= HANDING
     }
 
-    /// Whether many packets change the table, as far as enough have come to tell.
+    /// Whether many packets change the table, once enough have come to tell.
     fn many_change(&self) -> bool {
         self.taken >= ENOUGH && self.changed.saturating_mul(FEW) >= self.taken
     }

@@ -21,7 +21,8 @@ use std::collections::VecDeque;
 use std::sync::Wait;
 use std::thread::Threads;
 
-/// Opens a batch of records: the workers are told how far the published table has come, and draw its packets, unless they rest.
+/// Opens a batch of records. The workers are told how far the published table has come, and draw its packets, unless
+/// they rest.
 fn open_batch<J: OfRun + Send + Sync, K: Naming + Send + Sync, R: Threads + Wait + Sync>(
     rt: &R,
     alloc: Global,

@@ -23,26 +23,26 @@ use std::thread::Threads;
 /// How many bytes are requested and released at the start of a run.
 const KEPT: usize = 1 << 22;
 
-/// Has the system's allocator keep the memory of a batch for the next one. It gives memory back to the system if more is free than
-/// twice the greatest piece that was released before (mallopt(3)), and each batch would begin with pages that have to be cleared.
-/// Nothing is written into this piece, so it takes no memory.
+/// Has the system's allocator keep the memory of a batch for the next one. It gives memory back to the system if more
+/// is free than twice the greatest piece that was released before (mallopt(3)), and each batch would begin with pages
+/// that have to be cleared. Nothing is written into this piece, so it takes no memory.
 fn keep_memory(alloc: Global) {
     drop(Vec::<u8>::with_capacity(alloc, KEPT));
 }
 
-/// Takes the batches of a feed one after the other, by a book that has committed nothing, and hands the feed what each adds.
-/// `workers` threads live as long as the run; with none the calling thread does all. While a batch is taken, workers evaluate the
-/// packets of at most two further ones, on the published table, which shows what the batches before it did to the states. If that
-/// doesn't pay they rest for some batches, or are given up.
+/// Takes the batches of a feed one after the other, by a book that has committed nothing, and hands the feed what each
+/// adds. `workers` threads live as long as the run; with none the calling thread does all. While a batch is taken,
+/// workers evaluate the packets of at most two further ones, on the published table, which shows what the batches
+/// before it did to the states. If that doesn't pay they rest for some batches, or are given up.
 ///
-/// Ok comes if the reading has ended and the piece of every batch was taken, and if the feed didn't take a piece whole. The only
-/// error is that memory was refused. What is taken is what one thread would have emitted that takes the packets one after the
-/// other, whatever the number of workers and the order of their results.
+/// Ok comes if the reading has ended and the piece of every batch was taken, and if the feed didn't take a piece whole.
+/// The only error is that memory was refused. Whatever the number of workers and the order of their results, the feed
+/// takes what one thread would have emitted that takes the packets one after the other.
 ///
-/// The trace has the batches that were opened, the claims of those whose passes all came back, in order, those whose passes didn't,
-/// the published table, and whether workers were given up. Without workers no batch is opened and no table published.
-/// The gate is told of each turn of a packet, and what it came to; what it does there can hold the run up, and changes nothing else.
-/// Without workers it is told of no turn.
+/// The trace has the batches that were opened; in order, the claims of the batches whose passes all came back; the
+/// batches whose passes didn't; the published table; and whether workers were given up. Without workers no batch is
+/// opened and no table published. The gate is told of each turn of a packet, and what it came to; what it does there
+/// can hold the run up, and changes nothing else. Without workers it is told of no turn.
 ///
 /// The two histories are new ones: in the proofs they are what packets did to the table, and which batches were opened.
 pub fn run_workers<

@@ -28,8 +28,8 @@ use std::thread::Threads;
 /// The most batches that are held at once: one that is taken, and two that were read ahead.
 const HELD: usize = 3;
 
-/// Whether a batch is read ahead next: as long as the reading goes on and fewer than three wait, or none if they are taken one at a
-/// time.
+/// Whether a batch is read ahead next. The reading must go on, and fewer than three batches wait; none may wait if they
+/// are taken one at a time.
 fn reads_ahead<T: Drop>(is_over: bool, waiting: &VecDeque<T>, one_at_a_time: bool) -> bool
     ensures yes { result ≡ true → (is_over ≡ false) × (length waiting.now.items < 3) }
     ensures no { result ≡ false → waiting.now.items ≡ [] → is_over ≡ true }

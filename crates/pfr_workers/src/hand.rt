@@ -23,7 +23,7 @@ pub trait Hand {
     fn begin(&mut self, batch: &Self::Batch)
         ensures { begun self.new batch.now };
 
-    /// A group with no answers, which is to take `room` of them. There is none if memory is refused.
+    /// A group with no answers, which is to take `room` answers, or None if memory is refused.
     fn group(&self, room: usize) -> Option<Self::Group>;
 
     /// Answers a number of a batch that it has begun, puts the answer into a group and says so. Nothing is put into it if there
@@ -32,10 +32,10 @@ pub trait Hand {
         requires { begun self.old batch.now }
         ensures { begun self.new batch.now };
 
-    /// Is called once a number's answer is kept to be sent: it goes with the next ones, or when the pass ends. The worker that
-    /// answered the number calls this before it draws another one, so who is told may hold a later number up until this one is
-    /// answered. It isn't called if there was no memory to keep the answer. An answer that is kept may still be dropped later,
-    /// if there is no memory to send its group or to receive it.
+    /// Is called once a number's answer is kept to be sent: it goes with the next ones, or when the pass ends. The
+    /// worker that answered the number calls this before it draws another one, so a hand may hold up a later number
+    /// until this one is answered. It isn't called if there was no memory to keep the answer. An answer that is kept
+    /// may still be dropped later, if there is no memory to send its group or to receive it.
     fn answered(&self, batch: &Self::Batch, number: u64);
 }
 

@@ -1,4 +1,5 @@
 //! Workers that live as long as a run, and answer what they find out about the numbers of the batches that are opened.
+//! A helper of `pfr_work`.
 //!
 //! Each worker is given a task for each batch, on a channel of its own: it draws numbers of the batch, each number by exactly one
 //! worker, and sends what it answers in groups, on a channel of the batch's own. At its end it sends its pass back. Several

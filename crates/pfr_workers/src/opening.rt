@@ -13,8 +13,8 @@ pub struct OpenedClaims {
     pub(crate) claims: Snapshot<Claims>,
 }
 
-/// The history of the batches that were opened. A pass that comes back on a channel can't be asked which batch it is of: the
-/// message names its batch by its number in this history. Contracts see the claims of the batches, in order.
+/// The history of the batches that were opened. A pass that comes back on a channel doesn't say which batch it is of:
+/// the message names its batch by its number in this history. Contracts see the claims of the batches, in order.
 #[derive(Drop)]
 pub struct Openings<J: Naming> {
     history: History<J, OpenedClaims>,

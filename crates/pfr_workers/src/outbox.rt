@@ -7,8 +7,8 @@ use pfr_history::Naming;
 use std::sync::Wait;
 
 /// How many answers a worker sends at once. A send takes a lock and may wake the receiver, which costs more than answering a
-/// number does. Shared by this many answers that cost is small, and so is the room that a worker takes for them. Of a batch with
-/// fewer numbers for each worker all come with the pass.
+/// number does. Shared by this many answers that cost is small, and so is the room that a worker takes for them. If a
+/// batch has fewer numbers for each worker, all answers come with the pass.
 const GROUP: usize = 128;
 
 /// A worker's sender, the group that it is to send next, if one is begun, and how many answers were put into that.

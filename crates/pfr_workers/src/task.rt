@@ -39,7 +39,7 @@ pub(crate) struct Back<J: Naming> {
     pub ghost own: { IsNumbered numbered.front numbered.number pass.batch },
 }
 
-/// The pass that came back: it is turned down only if its number is that of another batch.
+/// The pass that came back, or None only if its number is another batch's.
 #[tactic(auto, using(crate::proofs::OpeningLemmas::same_batch))]
 pub(crate) fn pass_of<J: Naming>(
     mine: &Numbered<J>,

@@ -9,7 +9,7 @@ use std::collections::VecDeque;
 use std::test::Fail;
 use std::thread::{Threads, join};
 
-/// What was drawn in some turns, in their order, and where the word stood once all passes had ended.
+/// What was drawn in some turns, in their order, and the word once all passes had ended.
 #[derive(Drop)]
 struct Played {
     numbers: Vec<u64>,
@@ -43,7 +43,7 @@ fn play(
     }
 }
 
-/// Lets passes draw in turn, so often, and drains them then.
+/// Lets passes draw in turn, `turns` times, and drains them then.
 fn play_all(
     claims: &Claims,
     passes: Vec<ClaimPass>,
@@ -66,7 +66,7 @@ fn play_all(
     Ok(ended)
 }
 
-/// A batch whose passes draw so many numbers in turn, and are drained then.
+/// A batch whose passes draw numbers in turn, `turns` times, and are drained then.
 fn play_batch(alloc: Global, count: u64, workers: u64, turns: u64) -> Result<Played, AllocError>
     requires count { count ≤ 4096 }
     requires workers { (0 < workers) × (workers ≤ 64) }
@@ -78,7 +78,7 @@ fn play_batch(alloc: Global, count: u64, workers: u64, turns: u64) -> Result<Pla
     Ok(Played { numbers, word })
 }
 
-/// Whether the passes of a batch draw these numbers in turn, and leave the word so.
+/// Whether the passes of a batch draw `numbers` in turn, and leave the word at `word`.
 fn draws(alloc: Global, count: u64, workers: u64, turns: u64, numbers: &[u64], word: u64) -> bool
     requires count { count ≤ 4096 }
     requires workers { (0 < workers) × (workers ≤ 64) }

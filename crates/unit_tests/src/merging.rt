@@ -102,7 +102,7 @@ fn times_are_compared_in_nanoseconds(rt: HostRuntime) -> Result<(), Fail> {
     Ok(())
 }
 
-/// The captures that go on aren't asked for what comes behind the refused one's last record.
+/// From the captures that go on, nothing behind the refused one's last record is requested.
 #[test]
 fn a_refused_capture_ends_the_merge(rt: HostRuntime) -> Result<(), Fail> {
     let alloc = rt.alloc();
@@ -128,8 +128,8 @@ fn a_capture_is_read_only_for_its_next_record(rt: HostRuntime) -> Result<(), Fai
     Ok(())
 }
 
-/// Whether a source may have to be waited for after each of five batches of two records of these captures. Nothing if one of them can't be
-/// opened.
+/// Whether a source may have to be waited for after each of five batches, of two records each. None if one of these
+/// captures can't be opened.
 fn waits(alloc: Global, mut sources: [Mem; 2]) -> Result<Option<Vec<bool>>, AllocError> {
     let Ok(mut merge) = Merge::open(alloc, &mut sources) else {
         return Ok(None);
@@ -144,8 +144,8 @@ fn waits(alloc: Global, mut sources: [Mem; 2]) -> Result<Option<Vec<bool>>, Allo
     Ok(Some(waits))
 }
 
-/// The first capture has one record. Once its end was read the second one alone may have to be waited for, where less of it has come than a
-/// batch took of it.
+/// The first capture has one record. Once its end was read, only the second one may have to be waited for: if less of
+/// it has come than a batch took of it.
 #[test]
 fn an_ended_capture_is_not_waited_for(rt: HostRuntime) -> Result<(), Fail> {
     let alloc = rt.alloc();

@@ -96,7 +96,7 @@ fn seen_beside<
     seen
 }
 
-/// A viewer in another thread is told of three states of which one has expired, where there may be two.
+/// The table may have two states. A viewer in another thread is told of three, of which one has expired.
 #[test]
 fn another_thread_sees_what_is_published(rt: HostRuntime) {
     let seen = seen_beside::<Brand, _>(rt, rt.alloc(), Opened::new(), 2);
@@ -164,7 +164,7 @@ fn refuses<J: TableNaming, R: Wait + Abort>(
     assert!(rt; table.len() == 0);
 }
 
-/// Where the table is full, nothing more is published, and what was is still shown until the end.
+/// Once the table is full, nothing more is published. What was published is still shown until the end.
 #[test]
 fn a_refusal_is_for_good(rt: HostRuntime) {
     refuses::<Brand, _>(&rt, rt.alloc(), Opened::new(), 1);
@@ -197,8 +197,8 @@ fn hides<J: TableNaming, R: Wait + Abort>(
     assert!(rt; seen == (0, 0) && table.is_none());
 }
 
-/// Where the table is hidden nobody is shown it any more, also by what is published later. Its list goes on, though there is room for
-/// one state alone.
+/// Once the table is hidden, nobody is shown it any more, nor what is published later. Its list goes on, though there
+/// is room for only one state.
 #[test]
 fn a_hidden_table_is_shown_to_nobody(rt: HostRuntime) {
     hides::<Brand, _>(&rt, rt.alloc(), Opened::new(), 1);

@@ -25,14 +25,15 @@ static INSERTED: [u8; 290] = [
 static LINE: &[u8] =
     b"1 6 out 198.51.100.7:80,10.0.0.5:1000 198.51.100.7:80,10.0.0.5:1000 r=0 4/1101/3001/1000/- 4/5001/6001/2000/- 2\n";
 
-/// A source of that message and some bytes more, of which it gives at most `most` at a time and fails after the first time.
+/// A source of that message and some bytes more, of which it gives at most `most` at a time and fails after the first
+/// time.
 fn failing(alloc: Global, more: &[u8], most: usize) -> Result<Mem, AllocError> {
     let mut bytes = Vec::from_slice(alloc, &INSERTED)?;
     bytes.extend_from_slice(more)?;
     Ok(Mem::new(bytes).at_most(most).failing_after(1))
 }
 
-/// Whether a run over a source stops so behind the line of the first message.
+/// Whether a standby over a source writes the line of the first message and ends with `stop`.
 fn stops(alloc: Global, mut source: Mem, stop: StandbyStop) -> bool {
     let mut sink = Mem::new(Vec::new(alloc));
     standby(alloc, &mut source, Framing::File, &mut sink) == Err(stop) && sink.bytes() == LINE
@@ -45,7 +46,7 @@ fn a_source_fails(rt: HostRuntime) -> Result<(), Fail> {
     Ok(())
 }
 
-/// What is wrong in the bytes before goes before the failure.
+/// If the bytes before a failure are wrong, that is reported, and not the failure.
 #[test]
 fn a_source_fails_behind_a_wrong_message(rt: HostRuntime) -> Result<(), Fail> {
     let source = failing(rt.alloc(), &[0x46; 30], 320)?;

@@ -22,7 +22,8 @@ fn wait_for<R: Clock>(rt: &R, flag: &AtomicBool) -> bool {
     false
 }
 
-/// What the workers of a batch share: which batch it is, of how many numbers, and how often it was begun and an answer told.
+/// What the workers of a batch share: its id, how many numbers it has, how often it was begun, and how many answers
+/// were told.
 #[derive(Drop)]
 struct Sheet {
     id: u64,
@@ -31,8 +32,8 @@ struct Sheet {
     told: AtomicU64,
 }
 
-/// A number of a batch that was answered, and whether that was in time: the hand had taken note of the batch, and had told of its
-/// answer before.
+/// A number of a batch that was answered, and whether that was in time: the hand had taken note of the batch, and had
+/// told of its answer before.
 #[derive(Clone, Copy, PartialEq, Eq)]
 struct Answer {
     batch: u64,
@@ -40,7 +41,7 @@ struct Answer {
     in_time: bool,
 }
 
-/// What stands for a number that is still to be told of, where there is none.
+/// Stands for the number that is still to be told of, if there is none.
 const ALL_TOLD: u64 = u64::MAX;
 
 /// Answers number 0 once all batches are open, and none of the numbers 2, 5, 8 and so on.
@@ -124,7 +125,7 @@ fn hands<'a, R: Clock + Sync>(
     Ok(hands)
 }
 
-/// A batch that is to be opened: of how many numbers, and how many workers it is given to at most.
+/// A batch that is to be opened: how many numbers it has, and how many workers it is given to at most.
 #[derive(Clone, Copy)]
 struct Planned {
     count: u64,
@@ -220,8 +221,8 @@ fn finished<R: Threads + Wait + Clock + Sync>(
     finished_under::<Brand, _>(rt, alloc, Opened::new(), staff, plan)
 }
 
-/// What can be seen of a finished batch: which it is, where the word of its claims stood, how often it was begun, how many answers
-/// were told, how many came, and how many of its numbers have one answer in time.
+/// What can be seen of a finished batch: its id, where the word of its claims stood, how often it was begun, how many
+/// answers were told, how many came, and how many of its numbers have one answer in time.
 #[derive(Clone, Copy, Debug, PartialEq, Eq)]
 struct Seen {
     id: u64,
@@ -266,7 +267,7 @@ fn right_in(groups: &[Vec<Answer>], sheet: &Sheet) -> u64 {
     right
 }
 
-/// What can be seen of a batch whose passes all came back, and that the workers have let go of.
+/// What can be seen of a batch whose passes all came back, and that the workers have released.
 fn seen_of(finished: Finished<Sheet, Vec<Answer>>) -> Option<Seen> {
     let Finished {
         groups,
@@ -300,7 +301,7 @@ fn play<R: Threads + Wait + Clock + Sync>(
     Ok(all_seen)
 }
 
-/// A batch that is whole, that so many workers began, and of which each answer was told, came once and in time.
+/// A whole batch: `begun` workers began it, and each of its answers was told, and came once and in time.
 fn whole(id: u64, word: u64, begun: u64, answers: u64) -> Option<Seen> {
     Some(Seen {
         id,
@@ -312,7 +313,7 @@ fn whole(id: u64, word: u64, begun: u64, answers: u64) -> Option<Seen> {
     })
 }
 
-/// Whether workers, of whom some have no hand, leave this of the batches of a plan.
+/// Whether workers, some without a hand, leave `expected` of the batches of a plan.
 fn leaves<R: Threads + Wait + Clock + Sync>(
     rt: &R,
     alloc: Global,
@@ -326,7 +327,7 @@ fn leaves<R: Threads + Wait + Clock + Sync>(
     }
 }
 
-/// Workers of whom each has a hand.
+/// Workers who each have a hand.
 fn hired(workers: u64) -> Staff
     requires { (0 < workers) × (workers ≤ 64) }
 {
@@ -380,7 +381,7 @@ fn workers_rest(rt: HostRuntime) {
     assert!(rt; leaves(&rt, rt.alloc(), hired(3), &plan, &expected));
 }
 
-/// A batch is given to as many workers as are asked for, and these answer all its numbers.
+/// A batch is given to as many workers as are requested, and these answer all its numbers.
 #[test]
 fn few_workers_are_given_a_batch(rt: HostRuntime) {
     let plan = [

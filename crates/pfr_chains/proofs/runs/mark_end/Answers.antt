@@ -1,4 +1,4 @@
--- Where a run begins at the place, it is the first beginning from there.
+-- If a run begins at the place, the place is the first beginning from there on.
 use Rattle.pfr_chains.proofs.RunLemmas.{begin_here}
 use Rattle.pfr_chains.proofs.runs.mark_end.Goals as goal
 

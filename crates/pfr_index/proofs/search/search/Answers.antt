@@ -1,4 +1,4 @@
--- Where a slot is free the search ends.
+-- If a slot is free, the search ends there.
 use Rattle.std.proofs.Common.{◌∙◌, sym}
 use Rattle.pfr_index.proofs.FindLemmas.{end_at}
 use Rattle.pfr_index.proofs.search.search.Goals as goal

@@ -1,5 +1,5 @@
 -- How an `Items` stores its elements, so that a type may hold a list of itself: as the list that it shows, in the
--- places in which its `Vec` has them.
+-- places where its `Vec` has them.
 use Rattle.std.specs.formers.vec.Vec as vec
 use Rattle.std.specs.declared.alloc.Global.{Global}
 use Rattle.std.specs.contracts.alloc.Global as heap

@@ -1,4 +1,4 @@
--- One slot more is held, and one that is free less where that one was.
+-- One slot more is held, and one slot less is free if the new entry's slot was.
 use Rattle.std.proofs.Common.{◌≡◌, ◌∙◌, ◌++◌, arith, drop, length, take, true}
 use Rattle.std.proofs.lemmas.Bool.{lt-ltb}
 use Rattle.pfr_index.specs.declared.slot.Slot.{Slot}

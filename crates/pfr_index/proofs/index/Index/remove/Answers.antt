@@ -1,4 +1,4 @@
--- One slot less is held where one held the entry.
+-- One slot less is held if one held the entry.
 use Rattle.std.proofs.Common.{◌≡◌, ◌∙◌, ◌++◌, arith, drop, length, take}
 use Rattle.pfr_index.specs.Index.{Entry}
 use Rattle.pfr_index.specs.Slots.{Leaves}

@@ -1,4 +1,4 @@
--- Where a slot is free, not all are held.
+-- If a slot is free, not all are held.
 use Rattle.std.proofs.Common.{arith}
 use Rattle.pfr_index.proofs.CountLemmas.{held_and_free}
 use Rattle.pfr_index.proofs.index.Index.reserve.Goals as goal
