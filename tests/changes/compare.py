@@ -1,19 +1,18 @@
 """Compares what the command `diff` of pfreplay answers with the model, and with answers written by hand.
 
     python3 -m changes.compare [--program FILE] [--drawn N]
+    python3 -m changes.compare --model
 
 in the folder `tests`. `--drawn` tells how many random questions there are. For each one the program is run by both
-rulesets, and the model joins what these runs leave. For some of them the model of runs is asked too.
+rulesets, and the model joins what these runs leave. For some of them the model of runs is asked too. With `--model` the
+models alone are compared with the answers written by hand, and no program is needed.
 """
 
-import argparse
 import sys
 from collections import Counter
-from pathlib import Path
 
 sys.dont_write_bytecode = True
 
-import building
 from adapt.asking import begins_so
 from changes import cases, edits, files, judged, lines, model, rows
 from changes.asking import asked, flags, lay_out, runs_of
@@ -23,10 +22,8 @@ from changes.model import NAMES, REFUSED, SOMETHING_CHANGES, modelled
 from changes.row import question_of
 from faults.command import ends_lawfully
 from runs import model as runs_model
-from runs.comparison import a_line
-from runs.model import Outcome
 from runs.setting_rows import OF_BOTH
-from standby.many import in_processes, part
+from standby.many import in_parts, in_processes, main_of
 from steps.tap_cases import RULES as REDIRECTING
 
 # where no other number is told, and that of the models alone
@@ -69,7 +66,7 @@ def bad_lines(comparison):
     lay_out(comparison, question_of("scrub in all", "pass", b""))
     for words, said in lines.bad():
         seen = comparison.execute(words, home=comparison.folder)
-        comparison.expect(f"words {words}", Outcome(b"", a_line(seen, b"pfreplay: ", said), REFUSED), seen)
+        comparison.expect_refused(f"words {words}", seen, said, REFUSED)
 
 
 def good_lines(comparison):
@@ -81,10 +78,7 @@ def good_lines(comparison):
         comparison.expect(f"words {words}", modelled(fitting),
                           comparison.execute(["diff", *words], home=comparison.folder))
     for words in (("--help",), ("diff", "--help"), ("help", "diff")):
-        parts = lines.HELPED if "diff" in words else (b"diff",)
-        seen = comparison.execute(words)
-        is_told = seen and all(each in seen.out for each in parts)
-        comparison.expect(f"words {words}", Outcome(seen.out if is_told else b"(some)", b"", 0), seen)
+        comparison.expect_help(words, lines.HELPED if "diff" in words else (b"diff",))
 
 
 # Faults
@@ -178,28 +172,20 @@ def drawn_by_model(comparison, number):
 
 def compare_model():
     """Whether something goes wrong with each part of the model alone."""
-    results = []
-    with part("answers written by hand, by the model", None, results) as comparison:
-        model_rows(comparison)
-    with part("made-up endings of faults", None, results) as comparison:
-        judged.compare(comparison)
+    results = in_parts(None, {
+        "answers written by hand, by the model": (model_rows,),
+        "made-up endings of faults": (judged.compare,)})
     found = in_processes(drawn_by_model, None, MODEL_DRAWN)
     return [*results, told_drawn("random questions, by the models", found)]
 
 
 def compare(program, drawn=DRAWN):
     """Whether something goes wrong with each part of the comparison with a program."""
-    results = []
-    with part("answers written by hand and command lines", program, results) as comparison:
-        program_rows(comparison)
-        bad_lines(comparison)
-        good_lines(comparison)
-    with part("files and outputs", program, results) as comparison:
-        files.compare(comparison)
-    with part("questions with a fault at each call", program, results) as comparison:
-        faults(comparison)
-    with part("the examples without a rule", program, results) as comparison:
-        example_questions(comparison)
+    results = in_parts(program, {
+        "answers written by hand and command lines": (program_rows, bad_lines, good_lines),
+        "files and outputs": (files.compare,),
+        "questions with a fault at each call": (faults,),
+        "the examples without a rule": (example_questions,)})
     return [*results, told_drawn("random questions", in_processes(drawn_by_program, program, drawn))]
 
 
@@ -208,11 +194,7 @@ def model_alone():
 
 
 def main():
-    parser = argparse.ArgumentParser(description="Compares the command diff with the model.")
-    parser.add_argument("--program", type=Path, metavar="FILE", help="the built program")
-    parser.add_argument("--drawn", type=int, default=DRAWN, metavar="N", help="how many random questions")
-    words = parser.parse_args()
-    sys.exit(any(compare(words.program or building.pfreplay(), words.drawn)))
+    main_of("diff", compare, model_alone, DRAWN)
 
 
 if __name__ == "__main__":

@@ -3,16 +3,15 @@ program is needed."""
 
 import tempfile
 from pathlib import Path
-from typing import NamedTuple
 
 from captures.packets import record, udp
 from changes.model import modelled
 from changes.row import capture_of, text_of
 from faults import made_up
 from faults.diff import NEW, OLD, judge, places, question_of, rulesets_of, texts_of
-from faults.made_up import Ending, ending
-from faults.replay import ANSWER, CAPTURES, ERROR, MEMORY
-from faults.trial import Seen, name_in
+from faults.made_up import Trial, ending, lost
+from faults.replay import ANSWER, CAPTURES, MEMORY
+from faults.trial import Seen
 from steps.translation_words import ANSWERED, ASKED, H, P
 
 FIRST, SECOND = CAPTURES[:2]
@@ -28,22 +27,14 @@ FILES = {"capture": CAPTURE, "capture1": OTHER, **RULES}
 WRITTEN = "write failed: standard output"
 
 
-class Trial(NamedTuple):
-    """A run without a fault."""
-    command: list
-    clean: Seen
-
-    def name_of(self, file):
-        return name_in(self.command, places(self.command)[file])
-
-
 def trial_of(folder, texts, also):
     """The run without a fault of files that hold these texts, over one capture or two."""
     for name, text in texts.items():
         (folder / name).write_bytes(text)
     more = ["--also", f"em1,203.0.113.2/24,{folder / 'capture1'}"] if also else []
     names = (str(folder / name) for name in ("capture", "old", "new"))
-    trial = Trial(["pfreplay", "diff", *names, *FLAGS, *more], None)
+    command = ["pfreplay", "diff", *names, *FLAGS, *more]
+    trial = Trial(command, None, places(command))
     out, err, status, _ = modelled(question_of(trial.command, texts_of(trial)), rulesets_of(trial))
     return trial._replace(clean=Seen(status, out, err))
 
@@ -140,11 +131,6 @@ def wrong_of_two(_trial):
 
 
 # Runs that are refused
-
-def lost(*seen):
-    """Endings in which standard error fails."""
-    return [Ending(f"a lost error, {one}", ERROR, "fail", one) for one in seen]
-
 
 def compare_lost(comparison, trial):
     """Standard error gets nothing of a refusal, or a part; the status tells it all the same, and nothing is printed."""

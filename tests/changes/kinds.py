@@ -67,9 +67,4 @@ def counts_of(drawn, outcomes, expected):
 
 def told_drawn(title, found):
     """Prints how the random questions went, and whether something of them is wrong or comes up too seldom."""
-    is_wrong = told(title, found, PROMISED, EACH)
-    print("  " + ", ".join(f"{found.counts[name]} {name}" for name in REFUSALS.values()))
-    missing = [name for name in REFUSALS.values() if not found.counts[name]]
-    if missing:
-        print(f"  never seen: {', '.join(missing)}")
-    return is_wrong or bool(missing)
+    return told(title, found, PROMISED, EACH, REFUSALS.values())

@@ -148,6 +148,10 @@ def state_rows():
               packets={0: [1], 1: [2]}, closed={2: [290]}, last=[132],
               ending=["filter 0 1 2 56", "filter 1 1 0 0", "total 2 2 0 0 0",
                       f"1 17 out {UDP_KEYS} r=0 t=- 2/0/0/0/- 1/0/0/0/- 0 31 1 28 1 28 i=-"])
+
+
+def shared_rows():
+    """What all interfaces have in common: the room of a rule, the clock, and a state for all."""
     yield row("room for one state of all interfaces together",
               "pass out quick proto udp keep state (max 1, if-bound)\nblock out all",
               (0, 0, ASKED, "1 0 out pass rule r=0 t=- s=1 i=em0"),
@@ -264,7 +268,7 @@ def output_rows():
 
 
 def answers():
-    for make in (rule_rows, state_rows, error_rows, nat_rows, redirection_rows, output_rows):
+    for make in (rule_rows, state_rows, shared_rows, error_rows, nat_rows, redirection_rows, output_rows):
         yield from make()
 
 

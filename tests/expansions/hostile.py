@@ -46,21 +46,15 @@ def several():
             for name, text, answers in of_own() for count, answer in enumerate(answers, 1)]
 
 
-def hostile():
-    """Texts that ask for much, with how many rules they make, or their fault."""
+def ports_in_macro():
+    """A macro of all ports."""
+    return f'x = "{{ {" ".join(map(str, range(65536)))} }}"\n'
+
+
+def of_lists():
+    """Lists of addresses, and labels."""
     many = f"pass from {{ {addresses(256)} }} to {{ {addresses(256)} }}\n"
-    pair = nested("anchor proto { tcp, udp }", "pass\n")
-    translated = f"no nat from {{ {addresses(256)} }} to {{ {addresses(256)} }}\n"
-    ports = f'x = "{{ {" ".join(map(str, range(65536)))} }}"\n'
-    hundred = "{ " + " ".join(str(number) for number in range(100)) + " }"
-    forty = doubled(40)
-    braced = forty + 'l = "{" $m40 "}"\n'
-    half = 2 ** 19
-    long = f'x = "{{{" 1" * (half // 2)} }}"\n'
-    blanks = f'x = "{" " * half}self"\n'
-    zeros = f'x = "{"0" * half}80"\n'
-    long_fault = f'x = "{{{" 10.0.0.300" * (half // 11)} }}"\n'
-    cases = (
+    return (
         ("256 by 256", many, counted(65536)),
         ("256 by 256 and one", many + "pass\n", "line 2: too many"),
         ("one and 256 by 256", "pass\n" + many, "line 2: too many"),
@@ -72,6 +66,14 @@ def hostile():
         ("65537 labels in an anchor", "\nanchor {\n" + "pass label a\n" * 65537 + "}\n", "line 2: too many"),
         ("32768 labels in each of two anchors", "anchor proto { 1 2 } {\n" + "pass label a\n" * 32768 + "}\n",
          counted(65536)),
+    )
+
+
+def of_anchors():
+    """Anchors in one another, of which each is there more than once."""
+    pair = nested("anchor proto { tcp, udp }", "pass\n")
+    hundred = "{ " + " ".join(str(number) for number in range(100)) + " }"
+    return (
         ("16 anchors of two", pair, counted(65536)),
         ("11 anchors of two, with all lines", nested("anchor proto { tcp, udp }", "pass\n", 11), None),
         ("16 anchors of two round two rules", nested("anchor proto { tcp, udp }", "pass\npass\n"), "line 1: too many"),
@@ -84,6 +86,13 @@ def hostile():
          "line 17: too deep"),
         ("15 anchors of a hundred round a fault", nested(f"anchor proto {hundred}", "anchor proto $x\n", 15),
          "line 16: undefined macro"),
+    )
+
+
+def of_tables_and_ports():
+    """Entries of tables, and ports."""
+    ports = ports_in_macro()
+    return (
         ("a table of 65536", f"# entries\ntable <t> {{ {addresses(65536)} }}\n", counted(0)),
         ("a table of 65537", f"# entries\ntable <t> {{ {addresses(65537)} }}\n", "line 2: too many"),
         ("a table of 65537 that are one", "# entries\ntable <t>\\\n{ " + "self " * 65537 + "}\n", "line 2: too many"),
@@ -93,6 +102,14 @@ def hostile():
         ("ports of a macro and one", ports + "pass to port { $x 1 }\n", "line 2: too many"),
         ("undefined macros", "pass to port { " + "$x " * 65537 + "}\n", "line 1: too many"),
         ("as many undefined macros as may be", "pass to port { " + "$x\n" * 65536 + "}\n", "line 1: undefined macro"),
+    )
+
+
+def of_doublings():
+    """Macros of which each is twice the one before, up to forty times."""
+    forty = doubled(40)
+    braced = forty + 'l = "{" $m40 "}"\n'
+    return (
         ("forty doublings", forty, counted(0)),
         ("forty doublings and a rule", forty + "pass to port $m0\n", counted(1)),
         ("forty doublings as a port", forty + "pass to port $m40\n", "line 42: unknown word"),
@@ -112,6 +129,14 @@ def hostile():
         ("a list of seventeen doublings", doubled(17) + 'l = "{" $m17 "}"\npass to port $l\n', "line 20: too many"),
         ("forty doublings of nothing", doubled(40, ""), counted(0)),
         ("sixteen doublings of nothing round a port", doubled(16, "") + 'l = "80" $m16\npass to port $l\n', counted(1)),
+    )
+
+
+def of_translations():
+    """Rules of translation."""
+    translated = f"no nat from {{ {addresses(256)} }} to {{ {addresses(256)} }}\n"
+    ports = ports_in_macro()
+    return (
         ("256 by 256 that aren't translated", translated, counted(0, 65536)),
         ("256 by 256 that aren't translated, and a rule", translated + "pass\n", "line 2: too many"),
         ("256 by 256 that aren't translated, and a binat rule", translated + "binat from em0 -> em0\n",
@@ -130,6 +155,17 @@ def hostile():
         ("a list of forty doublings as a target", doubled(40, "10.0.0.1") + 'l = "{" $m40 "}"\nrdr -> $l\n',
          "line 43: left out: pool"),
         ("sixteen doublings of nothing round a target", doubled(16, "") + 'l = "em0" $m16\nnat -> $l\n', counted(0, 1)),
+    )
+
+
+def of_long_values():
+    """Macros whose values are long, and one that doubles what is no word."""
+    half = 2 ** 19
+    long = f'x = "{{{" 1" * (half // 2)} }}"\n'
+    blanks = f'x = "{" " * half}self"\n'
+    zeros = f'x = "{"0" * half}80"\n'
+    long_fault = f'x = "{{{" 10.0.0.300" * (half // 11)} }}"\n'
+    return (
         ("a long value round no rule, often", long + "anchor proto $x\n" * 24000, counted(0)),
         ("a long value with a table round no rule, often",
          f'table <t> {{ 10.0.0.1 }}\nx = "{{ <t>{" self" * (half // 5)} }}"\n' + "anchor from $x\n" * 24000,
@@ -157,4 +193,9 @@ def hostile():
          "line 3: too many"),
         ("forty doublings of what is no word", doubled(40, "$") + "pass to port $m40\n", "line 2: unknown word"),
     )
-    return [*several(), *(Text(name, text.encode(), answer=answer) for name, text, answer in cases)]
+
+
+def hostile():
+    """Texts that ask for much, with how many rules they make, or their fault."""
+    kinds = (of_lists, of_anchors, of_tables_and_ports, of_doublings, of_translations, of_long_values)
+    return [*several(), *(Text(name, text.encode(), answer=answer) for make in kinds for name, text, answer in make())]

@@ -4,10 +4,8 @@ The words behind `check` are the ruleset's file and the flags. Nothing else is r
 output and standard error are written.
 """
 
-import re
-
 from faults.replay import ERROR, MEMORY, TRANSFER, judge_lost
-from faults.trial import Target, Unlawful, lawful
+from faults.trial import Target, Unlawful, ending_told, lawful
 
 RULES = Target("read", "", TRANSFER)
 ANSWER = Target("write", "1", TRANSFER)
@@ -52,12 +50,9 @@ def ending_of(trial, seen):
     """The ending that status and standard error tell, once standard output agrees with it."""
     if seen == trial.clean:
         return "whole"
-    for ending, status, text in TEXTS:
-        found = re.fullmatch(rb"pfreplay: " + text + rb"\n", seen.err)
-        if found and seen.status == status:
-            check_told(trial, ending, found, seen)
-            return ending
-    raise Unlawful("no such status and standard error")
+    ending, found = ending_told(TEXTS, seen)
+    check_told(trial, ending, found, seen)
+    return ending
 
 
 def check_told(trial, ending, found, seen):

@@ -7,13 +7,11 @@ ends early.
 The capture of the interface at place K is called `captureK`, but for that of the first one.
 """
 
-import re
-from pathlib import Path
-
 from changes.model import Question, modelled
-from faults.replay import ANSWER, CAPTURE_NAMES, CAPTURES, ERROR, HEADER, MEMORY, TRANSFER, judge_lost, records_before
-from faults.trial import Part, Seen, Target, Unlawful, lawful
-from runs.case import NO_SEED, Also, Case
+from faults.judging import also_of, also_places, judge_answer, records_told, texts_in
+from faults.replay import ANSWER, CAPTURE_NAMES, CAPTURES, ERROR, MEMORY, TRANSFER, judge_lost
+from faults.trial import Part, Target, check, ending_told, lawful
+from runs.case import NO_SEED, Case
 
 OLD, NEW = (Target("read", "", TRANSFER, name) for name in ("old", "new"))
 TARGETS = (MEMORY, *CAPTURES, OLD, NEW, ANSWER, ERROR)
@@ -42,11 +40,6 @@ TEXTS = (
 
 # The command
 
-def also_places(command):
-    """The places of the words behind `--also`."""
-    return [place + 1 for place, word in enumerate(command) if word == "--also"]
-
-
 def places(command):
     """Which words of the command name its files."""
     first = command.index("diff")
@@ -67,16 +60,14 @@ def names_of(command):
 
 def texts_of(trial):
     """What the files hold, by their names."""
-    return {name: Path(trial.name_of(name)).read_bytes() for name in places(trial.command)}
+    return texts_in(trial, places(trial.command))
 
 
 def question_of(command, texts):
     """What the model is asked if the files hold these texts."""
     flags = flags_of(command)
-    also = tuple(Also(*command[place].split(",")[:2], texts[name])
-                 for name, place in zip(CAPTURE_NAMES[1:], also_places(command)))
     case = Case("", texts["old"], flags.get("--inside"), texts["capture"], flags["--interface"], flags["--address"],
-                flags.get("--seed", NO_SEED), also, flags.get("--tap"))
+                flags.get("--seed", NO_SEED), also_of(command, texts), flags.get("--tap"))
     return Question(case, texts["new"], "--verdicts" in command)
 
 
@@ -105,20 +96,12 @@ def judge(trial, fault, counts, seen):
     return ending
 
 
-def check(holds, otherwise):
-    if not holds:
-        raise Unlawful(otherwise)
-
-
 def told_of(trial, seen):
     """The ending that status and standard error tell, and what is told besides."""
     if seen == trial.clean:
         return "whole", ()
-    for ending, status, text in TEXTS:
-        found = re.fullmatch(rb"pfreplay: " + text + rb"\n", seen.err)
-        if found and seen.status == status:
-            return ending, found.groups()
-    raise Unlawful("no such status and standard error")
+    ending, found = ending_told(TEXTS, seen)
+    return ending, found.groups()
 
 
 def check_printed(trial, ending, seen):
@@ -132,19 +115,13 @@ def check_printed(trial, ending, seen):
 
 def check_read(trial, fault, counts, told):
     """A read that failed is told by the number of packets before it, and by the interface if there are several."""
-    place, names, (name, count) = CAPTURES.index(fault.target), names_of(trial.command), told
-    check(name == (names[place].encode() if len(names) > 1 else None), "standard error names another capture")
+    names = names_of(trial.command)
     captures = [texts_of(trial)[each] for each in CAPTURE_NAMES[:len(names)]]
-    given = captures[place][:counts.moved]
-    before = records_before(captures, place, given) if len(given) >= HEADER else 0
-    check(int(count) == before, f"{before} whole records were read")
+    records_told(captures, names, fault, counts, told)
 
 
 def judge_shorter(trial, fault, counts, seen):
     """A file that ends early is answered as one of that length."""
     texts = texts_of(trial)
     texts[fault.target.file] = texts[fault.target.file][:counts.moved]
-    out, err, status, _ = modelled(question_of(trial.command, texts), rulesets_of(trial))
-    if seen != Seen(status, out, err):
-        raise Unlawful(f"behind {counts.moved} bytes it ends with status {status}, {err!r} and {out.count(10)} lines")
-    return "whole" if seen == trial.clean else "shorter input"
+    return judge_answer(trial, counts, seen, modelled(question_of(trial.command, texts), rulesets_of(trial)))

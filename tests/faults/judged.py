@@ -129,9 +129,13 @@ def right_messages(pieces, target):
 
 def wrong_endings(pieces):
     """Endings that aren't, each by one thing."""
-    verdicts, packets, counters, states, *_ = pieces.whole
+    for some in (wrong_reads, wrong_counts, wrong_writes, wrong_refusals, wrong_answers):
+        yield from some(pieces)
+
+
+def wrong_reads(pieces):
+    _, _, counters, states, *_ = pieces.whole
     behind_read = HEADER + 300 * RECORD
-    two_batches = pieces.online(TWO_BATCHES)
     yield reading("counters behind a read that failed", 300, pieces.online(300, counters=counters), behind_read)
     yield reading("states behind a read that failed", 300, pieces.online(300, states=states), behind_read)
     yield reading("one committed too many", 301, pieces.online(300), behind_read)
@@ -140,11 +144,19 @@ def wrong_endings(pieces):
     yield reading("a packet that wasn't read", 301, pieces.online(301), behind_read)
     yield reading("a header that wasn't read", 0, pieces.online(0), HEADER - 1)
     yield reading("a file that isn't opened", 0, NOTHING._replace(states=None, messages=None), 0)
+
+
+def wrong_counts(pieces):
+    """Another number is told as committed."""
+    files = pieces.online(BATCH, messages=pieces.online(TWO_BATCHES).messages)
     for count, name in ((0, "none"), (TWO_BATCHES, "too many"), (255, "no boundary"), (BATCH + 1, "one too many")):
-        files = pieces.online(BATCH, messages=two_batches.messages)
         yield failing(f"verdicts, {name} committed", "verdicts", count, files)
         yield refusing(f"memory, {name} committed", count, pieces.online(BATCH))
-    first = pieces.online(BATCH)
+
+
+def wrong_writes(pieces):
+    verdicts, packets, counters, *_ = pieces.whole
+    first, two_batches = pieces.online(BATCH), pieces.online(TWO_BATCHES)
     yield failing("packets before verdicts", "verdicts", 0, first._replace(verdicts=b""))
     yield failing("packets before verdicts, told of the packets", "packets", 0, pieces.online(0))
     yield failing("no header before the verdicts", "packets", 0, first._replace(packets=b""))
@@ -160,11 +172,20 @@ def wrong_endings(pieces):
     yield failing("a whole run that is told to have failed", "states", COUNT, pieces.whole)
     yield failing("a line too few before the counters", "counters", COUNT,
                   pieces.ended(verdicts=verdicts[:-1], counters=b"", states=b""))
+
+
+def wrong_refusals(pieces):
+    _, packets, counters, *_ = pieces.whole
+    two_batches = pieces.online(TWO_BATCHES)
     yield refusing("counters, and not all packets", TWO_BATCHES, two_batches._replace(counters=counters))
     yield refusing("states without counters", COUNT, pieces.ended(counters=b""))
     yield refusing("two batches past what is told", 0, two_batches._replace(packets=packets[:HEADER]))
     yield refusing("a file missing between others", 0, NOTHING._replace(packets=None))
     yield refusing("a file written before all are open", 0, Files(b"", packets[:HEADER]))
+
+
+def wrong_answers(pieces):
+    """Status, text or standard output aren't those of the fault."""
     yield Ending("the status of another end", replay.MEMORY, "no memory, committed 0", 3, Files())
     yield Ending("a stop that isn't told", replay.WRITES["verdicts"], "", 0, pieces.online(0))
     yield Ending("a read that fails for no reason", replay.MEMORY, "read failed, committed 0", 3, NOTHING)

@@ -3,7 +3,18 @@ needed."""
 
 from typing import NamedTuple
 
-from faults.trial import Counts, Fault, Seen, Target, Unlawful
+from faults.replay import ERROR
+from faults.trial import Counts, Fault, Seen, Target, Unlawful, name_in
+
+
+class Trial(NamedTuple):
+    """A run without a fault, with the places of its files' names in the command."""
+    command: list
+    clean: Seen
+    places: dict
+
+    def name_of(self, file):
+        return name_in(self.command, self.places[file])
 
 
 class Ending(NamedTuple):
@@ -17,6 +28,11 @@ class Ending(NamedTuple):
 
 def ending(name, target, said, status, out=b"", deed="fail", moved=0):
     return Ending(name, target, deed, Seen(status, out, f"pfreplay: {said}\n".encode() if said else b""), moved)
+
+
+def lost(*seen):
+    """Endings in which standard error fails."""
+    return [Ending(f"a lost error, {one}", ERROR, "fail", one) for one in seen]
 
 
 def is_allowed(judge, trial, each):

@@ -8,7 +8,6 @@ A run may have several captures. That of the interface at place K, and its packe
 `packetsK`, but for those of the first one.
 """
 
-import re
 from functools import lru_cache
 from itertools import accumulate
 from pathlib import Path
@@ -17,7 +16,7 @@ from typing import NamedTuple
 from captures import merging
 from captures.merging import Source, source_of
 from captures.model import Refused
-from faults.trial import PEER, Part, Seen, Target, Unlawful, lawful, name_in
+from faults.trial import PEER, Part, Seen, Target, Unlawful, check, ending_told, lawful, name_in
 from runs import model
 from runs.case import NO_SEED, Also, Case
 from runs.comparison import MOST_INTERFACES
@@ -332,11 +331,8 @@ def told_of(trial, seen):
     """The ending that status and standard error tell, and what is told besides: a number or a name."""
     if seen == trial.clean:
         return "whole", None
-    for ending, status, text in TEXTS:
-        found = re.fullmatch(rb"pfreplay: " + text + rb"\n", seen.err)
-        if found and seen.status == status:
-            return ending, found[1] if found.groups() else None
-    raise Unlawful("no such status and standard error")
+    ending, found = ending_told(TEXTS, seen)
+    return ending, found[1] if found.groups() else None
 
 
 def check_ending(check_outputs, trial, ending, told, fault, counts, seen):
@@ -355,11 +351,6 @@ def check_ending(check_outputs, trial, ending, told, fault, counts, seen):
         check(not any(seen.files), "something is written, though the ruleset wasn't read")
     else:
         check_outputs(trial, ending, int(told), fault, counts, seen)
-
-
-def check(holds, otherwise):
-    if not holds:
-        raise Unlawful(otherwise)
 
 
 def check_committed(trial, ending, committed, fault, counts, seen):

@@ -8,16 +8,14 @@ else nothing. The model tells what is answered if a file ends early.
 The capture of the interface at place K is called `captureK`, but for that of the first one.
 """
 
-from pathlib import Path
-
 from faults import show
-from faults.diff import also_places
-from faults.replay import ANSWER, CAPTURE_NAMES, CAPTURES, ERROR, HEADER, MEMORY, TRANSFER, judge_lost, records_before
-from faults.show import RULES, VERDICTS, check, told_of
-from faults.trial import Part, Target, Unlawful, lawful
+from faults.judging import also_of, also_places, records_told, texts_in
+from faults.replay import ANSWER, CAPTURE_NAMES, CAPTURES, ERROR, MEMORY, TRANSFER, judge_lost
+from faults.show import RULES, VERDICTS, check_part, told_of
+from faults.trial import Part, Target, Unlawful, check, lawful
 from reporting.asking import as_read
 from reporting.model import Names, Question, answers
-from runs.case import Also, Case
+from runs.case import Case
 from runs.model import Outcome
 from showing import model as showing_model
 
@@ -43,16 +41,14 @@ def places(command):
 
 def question_of(command, texts):
     """What the model is asked if the files hold these texts."""
-    also = tuple(Also(*command[place].split(",")[:2], texts[name])
-                 for name, place in zip(CAPTURE_NAMES[1:], also_places(command)))
     interface, address = (command[command.index(flag) + 1] for flag in ("--interface", "--address"))
-    case = Case("", texts["rules"], None, texts["capture"], interface, address, also=also)
+    case = Case("", texts["rules"], None, texts["capture"], interface, address, also=also_of(command, texts))
     return Question(showing_model.Question(case, texts["verdicts"]), texts.get("states"))
 
 
 def texts_of(trial):
     """What the files hold, by their names."""
-    return {name: Path(trial.name_of(name)).read_bytes() for name in places(trial.command)}
+    return texts_in(trial, places(trial.command))
 
 
 def names_of(trial):
@@ -91,19 +87,13 @@ def check_ending(trial, fault, counts, ending, told, seen):
     elif ending in ("cannot read", "cannot open"):
         check(told == (trial.name_of(fault.target.file).encode(),), "standard error names another file")
     elif ending != "whole":
-        check(trial.clean.out.startswith(seen.out), "standard output is no beginning of the whole one")
-        check(ending == "no memory" or seen.out != trial.clean.out, "standard output is whole")
-        check(not seen.out or b"committed" not in seen.err, "something is printed before the words were read")
+        check_part(trial, ending, seen)
 
 
 def check_read(trial, fault, counts, told):
     """A read that failed is told by the number of packets before it, and by the interface if there are several."""
     question = question_of(trial.command, texts_of(trial))
-    place, names, (name, count) = CAPTURES.index(fault.target), question.shown.names(), told
-    check(name == (names[place].encode() if len(names) > 1 else None), "standard error names another capture")
-    given = question.case.captures()[place][:counts.moved]
-    before = records_before(question.case.captures(), place, given) if len(given) >= HEADER else 0
-    check(int(count) == before, f"{before} whole records were read")
+    records_told(question.case.captures(), question.shown.names(), fault, counts, told)
 
 
 def judge_shorter(trial, fault, counts, seen):

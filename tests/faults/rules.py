@@ -8,8 +8,9 @@ to a file that ends early.
 from pathlib import Path
 
 from expansions.hosts import interface_of
+from faults.judging import judge_answer
 from faults.replay import ANSWER, ERROR, MEMORY, TRANSFER, judge_lost
-from faults.trial import Seen, Target, Unlawful, lawful
+from faults.trial import Target, Unlawful, lawful
 from telling import model
 from telling.model import Asked
 
@@ -72,10 +73,7 @@ def judge_shorter(trial, fault, counts, seen):
         asked = asked._replace(text=asked.text[:counts.moved])
     else:
         asked = asked._replace(counters=asked.counters[:counts.moved])
-    out, err, status, _ = model.answer(asked)
-    if seen != Seen(status, out, err):
-        raise Unlawful(f"behind {counts.moved} bytes it ends with status {status}, {err!r} and {out.count(10)} lines")
-    return "whole" if seen == trial.clean else "shorter input"
+    return judge_answer(trial, counts, seen, model.answer(asked))
 
 
 def ending_of(trial, fault, seen):

@@ -8,13 +8,10 @@ early.
 The capture of the interface at place K is called `captureK`, but for that of the first one.
 """
 
-import re
-from pathlib import Path
-
-from faults.diff import also_places
-from faults.replay import ANSWER, CAPTURE_NAMES, CAPTURES, ERROR, HEADER, MEMORY, TRANSFER, judge_lost, records_before
-from faults.trial import Part, Seen, Target, Unlawful, lawful
-from runs.case import Also, Case
+from faults.judging import also_of, also_places, records_told, texts_in
+from faults.replay import ANSWER, CAPTURE_NAMES, CAPTURES, ERROR, HEADER, MEMORY, TRANSFER, judge_lost
+from faults.trial import Part, Seen, Target, Unlawful, check, ending_told, lawful
+from runs.case import Case
 from runs.model import network_of
 from showing.model import COUNT, TEXT, Asked, Question, answers, printed_after
 
@@ -73,15 +70,14 @@ def asked_of(flags):
 
 def texts_of(trial):
     """What the files hold, by their names."""
-    return {name: Path(trial.name_of(name)).read_bytes() for name in places(trial.command)}
+    return texts_in(trial, places(trial.command))
 
 
 def question_of(command, texts):
     """What the model is asked if the files hold these texts."""
     flags = flags_of(command)
-    also = tuple(Also(*command[place].split(",")[:2], texts[name])
-                 for name, place in zip(CAPTURE_NAMES[1:], also_places(command)))
-    case = Case("", texts["rules"], None, texts["capture"], flags["--interface"], flags["--address"], also=also)
+    case = Case("", texts["rules"], None, texts["capture"], flags["--interface"], flags["--address"],
+                also=also_of(command, texts))
     form = COUNT if "--count" in flags else flags.get("--format", TEXT)
     return Question(case, texts["verdicts"], asked_of(flags), form)
 
@@ -115,16 +111,8 @@ def told_of(trial, seen):
         return "whole", ()
     if trial.clean.err and (seen.status, seen.err) == (trial.clean.status, trial.clean.err):
         return "refused", ()
-    for ending, status, text in TEXTS:
-        found = re.fullmatch(rb"pfreplay: " + text + rb"\n", seen.err)
-        if found and seen.status == status:
-            return ending, found.groups()
-    raise Unlawful("no such status and standard error")
-
-
-def check(holds, otherwise):
-    if not holds:
-        raise Unlawful(otherwise)
+    ending, found = ending_told(TEXTS, seen)
+    return ending, found.groups()
 
 
 def check_ending(trial, fault, counts, ending, told, seen):
@@ -137,9 +125,14 @@ def check_ending(trial, fault, counts, ending, told, seen):
         lines = question_of(trial.command, texts_of(trial)).verdicts[:counts.moved].count(b"\n")
         check_beginning(trial, lines if ending == "cannot read" else 0, seen)
     elif ending != "whole":
-        check(trial.clean.out.startswith(seen.out), "standard output is no beginning of the whole one")
-        check(ending == "no memory" or seen.out != trial.clean.out, "standard output is whole")
-        check(not seen.out or b"committed" not in seen.err, "something is printed before the words were read")
+        check_part(trial, ending, seen)
+
+
+def check_part(trial, ending, seen):
+    """A beginning of what is to come is printed, or all of it if memory was refused."""
+    check(trial.clean.out.startswith(seen.out), "standard output is no beginning of the whole one")
+    check(ending == "no memory" or seen.out != trial.clean.out, "standard output is whole")
+    check(not seen.out or b"committed" not in seen.err, "something is printed before the words were read")
 
 
 def check_beginning(trial, count, seen):
@@ -152,12 +145,8 @@ def check_beginning(trial, count, seen):
 def check_read(trial, fault, counts, told, seen):
     """A read that failed is told by the number of packets before it, and by the interface if there are several."""
     question = question_of(trial.command, texts_of(trial))
-    place, names, (name, count) = CAPTURES.index(fault.target), question.names(), told
-    check(name == (names[place].encode() if len(names) > 1 else None), "standard error names another capture")
-    given = question.case.captures()[place][:counts.moved]
-    before = records_before(question.case.captures(), place, given) if len(given) >= HEADER else 0
-    check(int(count) == before, f"{before} whole records were read")
-    check_beginning(trial, before if len(given) >= HEADER else 0, seen)
+    before, given = records_told(question.case.captures(), question.names(), fault, counts, told)
+    check_beginning(trial, before, seen)
     check(len(given) >= HEADER or not seen.out, "something is printed before the headers were read")
 
 

@@ -4,11 +4,11 @@ The words behind `standby` are `--messages` and a file. Nothing else is read tha
 and standard error are written. The model tells what is answered to the bytes that were read before a fault.
 """
 
-import re
 from pathlib import Path
 
+from faults.judging import judge_answer
 from faults.replay import ANSWER, ERROR, MEMORY, TRANSFER, judge_lost
-from faults.trial import Seen, Target, Unlawful, lawful
+from faults.trial import Seen, Target, Unlawful, ending_told, lawful
 from runs.model import FILE
 from standby import model
 
@@ -57,12 +57,8 @@ def octets_of(trial):
 def judge_read(trial, fault, counts, seen):
     """After a read that failed, or an input that ends early, what was read before is answered."""
     is_failed = fault.deed == "fail"
-    out, err, status, _ = model.answer(octets_of(trial)[:counts.moved], FILE, is_failed)
-    if seen != Seen(status, out, err):
-        raise Unlawful(f"behind {counts.moved} bytes it ends with status {status}, {err!r} and {out.count(10)} lines")
-    if seen == trial.clean:
-        return "whole"
-    return "read failed" if is_failed else "shorter input"
+    ending = judge_answer(trial, counts, seen, model.answer(octets_of(trial)[:counts.moved], FILE, is_failed))
+    return "read failed" if is_failed and ending != "whole" else ending
 
 
 def ending_of(trial, seen):
@@ -71,12 +67,9 @@ def ending_of(trial, seen):
         return "whole"
     if seen == Seen(4, b"", NO_WORDS):
         return "no memory"
-    for ending, status, text in TEXTS:
-        found = re.fullmatch(rb"pfreplay: " + text + rb"\n", seen.err)
-        if found and seen.status == status:
-            check_told(trial, ending, int(found[1]), seen)
-            return ending
-    raise Unlawful("no such status and standard error")
+    ending, found = ending_told(TEXTS, seen)
+    check_told(trial, ending, int(found[1]), seen)
+    return ending
 
 
 def check_told(trial, ending, told, seen):

@@ -6,8 +6,9 @@ output and standard error are written. The model tells what is answered to a fil
 
 from pathlib import Path
 
+from faults.judging import judge_answer
 from faults.replay import ANSWER, ERROR, MEMORY, TRANSFER, judge_lost
-from faults.trial import Seen, Target, Unlawful, lawful
+from faults.trial import Target, Unlawful, lawful
 from listing import model
 
 STATES = Target("read", "", TRANSFER, "states")
@@ -50,10 +51,7 @@ def judge(trial, fault, counts, seen):
 def judge_shorter(trial, counts, seen):
     """A file that ends early is answered as one of that length."""
     octets = Path(trial.name_of("states")).read_bytes()[:counts.moved]
-    out, err, status, _ = model.answer(octets, "--json" in trial.command)
-    if seen != Seen(status, out, err):
-        raise Unlawful(f"behind {counts.moved} bytes it ends with status {status}, {err!r} and {out.count(10)} lines")
-    return "whole" if seen == trial.clean else "shorter input"
+    return judge_answer(trial, counts, seen, model.answer(octets, "--json" in trial.command))
 
 
 def ending_of(trial, seen):

@@ -3,8 +3,8 @@
 A thread that is refused is no fault, as the others do its work, or the run itself does.
 """
 
-from faults.replay import OUTPUTS, check, places
-from faults.trial import Target
+from faults.replay import OUTPUTS, places
+from faults.trial import Target, check
 from faults.workers import reference
 
 __all__ = ["ENDINGS", "OUTPUTS", "TARGETS", "judge", "places", "reference"]

@@ -1,6 +1,7 @@
 """Runs a command under the preloaded library, without a fault or with one."""
 
 import os
+import re
 import struct
 import subprocess
 import tempfile
@@ -100,6 +101,21 @@ class Counts(NamedTuple):
 
 class Unlawful(Exception):
     """A run ended in a way that its judge doesn't allow."""
+
+
+def check(holds, otherwise):
+    if not holds:
+        raise Unlawful(otherwise)
+
+
+def ending_told(texts, seen):
+    """The ending that status and standard error tell, with the match of its text. `texts` are endings, each with its
+    status and its pattern: the first one that fits counts."""
+    for ending, status, text in texts:
+        found = re.fullmatch(rb"pfreplay: " + text + rb"\n", seen.err)
+        if found and seen.status == status:
+            return ending, found
+    raise Unlawful("no such status and standard error")
 
 
 def lawful(ending, fault, endings):

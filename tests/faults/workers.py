@@ -6,7 +6,8 @@ writes, and what belongs to the packets that are told as committed is there. A r
 """
 
 from faults import replay
-from faults.replay import ENDINGS, OUTPUTS, TARGETS, check, places
+from faults.replay import ENDINGS, OUTPUTS, TARGETS, places
+from faults.trial import check
 
 __all__ = ["ENDINGS", "OUTPUTS", "TARGETS", "judge", "places", "reference"]
 

@@ -19,11 +19,10 @@ import building
 from faults.command import ends_lawfully
 from listing import cases, judged, model, rows
 from runs import model as runs_model
-from runs.comparison import a_line
 from runs.model import Outcome, cannot_open, failed
 from standby.after_runs import ALONE
 from standby.cases import case_at
-from standby.many import in_processes, part, told
+from standby.many import in_parts, in_processes, told
 from workers.choices import run_of
 from workers.pipes import without_reader
 
@@ -112,14 +111,12 @@ def command_lines(comparison):
         (folder / name).write_bytes(octets)
     for words, said in BAD_LINES:
         seen = comparison.execute(words, home=folder)
-        comparison.expect(f"words {words}", Outcome(b"", a_line(seen, b"pfreplay: ", said), 1), seen)
+        comparison.expect_refused(f"words {words}", seen, said)
     for words in (("states", "left", "--json"), ("states", "--json", "left"), ("states", "./-", "--json"),
                   ("states", "--json", "--", "left")):
         comparison.expect(f"words {words}", model.answer(octets, True), comparison.execute(words, home=folder))
     for words, parts in ((("--help",), (b"states",)), (("states", "--help"), (b"<STATES>", b"--json"))):
-        seen = comparison.execute(words)
-        is_told = seen and all(part in seen.out for part in parts)
-        comparison.expect(f"words {words}", Outcome(seen.out if is_told else b"(some)", b"", 0), seen)
+        comparison.expect_help(words, parts)
 
 
 # Files and outputs
@@ -249,11 +246,9 @@ def drawn_file_by_model(comparison, number):
 # All of it
 
 def model_alone():
-    results = []
-    with part("answers written by hand, by the model", None, results) as comparison:
-        model_rows(comparison)
-    with part("made-up endings of faults", None, results) as comparison:
-        judged.compare(comparison)
+    results = in_parts(None, {
+        "answers written by hand, by the model": (model_rows,),
+        "made-up endings of faults": (judged.compare,)})
     found = in_processes(after_run_by_model, None, MODEL_RUNS)
     results.append(told("the states of random runs, by the models", found, IN_RUNS, RUNS_EACH))
     found = in_processes(drawn_file_by_model, None, MODEL_DAMAGED)
@@ -267,14 +262,10 @@ def main():
     parser.add_argument("--runs", type=int, default=RUNS, metavar="N", help="how many random runs")
     parser.add_argument("--damaged", type=int, default=DAMAGED, metavar="N", help="how many drawn files")
     words = parser.parse_args()
-    program, results = words.program or building.pfreplay(), []
-    with part("answers written by hand, command lines, files and outputs", program, results) as comparison:
-        program_rows(comparison)
-        command_lines(comparison)
-        files(comparison)
-        outputs(comparison)
-    with part("files with a fault at each call", program, results) as comparison:
-        faults(comparison)
+    program = words.program or building.pfreplay()
+    results = in_parts(program, {
+        "answers written by hand, command lines, files and outputs": (program_rows, command_lines, files, outputs),
+        "files with a fault at each call": (faults,)})
     results.append(told("the states of random runs", in_processes(after_run, program, words.runs), IN_RUNS, RUNS_EACH))
     found = in_processes(drawn_file, program, words.damaged)
     results.append(told("drawn files", found, IN_FILES, DAMAGED_EACH))

@@ -3,12 +3,11 @@ program is needed."""
 
 import tempfile
 from pathlib import Path
-from typing import NamedTuple
 
 from faults import made_up
-from faults.made_up import Ending, ending
+from faults.made_up import Trial, ending, lost
 from faults.replay import ANSWER, ERROR, MEMORY
-from faults.states import STATES, judge
+from faults.states import STATES, judge, places
 from faults.trial import Seen
 from listing.rows import ECHO, ECHO_SHOWN, HELD, UDP, UDP_SHOWN, text_of
 
@@ -16,15 +15,6 @@ OCTETS = text_of(UDP, ECHO)
 SHOWN, FIRST_SHOWN = text_of(ECHO_SHOWN, UDP_SHOWN), text_of(ECHO_SHOWN)
 # what is said of a file, whose name stands for this
 FILE = "FILE"
-
-
-class Trial(NamedTuple):
-    """A run without a fault, of a file."""
-    command: list
-    clean: Seen
-
-    def name_of(self, _):
-        return self.command[-1]
 
 
 def right_endings():
@@ -68,9 +58,9 @@ def named(endings, trial):
         yield each._replace(seen=each.seen._replace(err=err))
 
 
-def lost(*seen):
-    """Endings in which standard error fails."""
-    return [Ending(f"a lost error, {one}", ERROR, "fail", one) for one in seen]
+def trial_of(file, clean):
+    command = ["pfreplay", "states", str(file)]
+    return Trial(command, clean, places(command))
 
 
 def compare(comparison):
@@ -78,11 +68,11 @@ def compare(comparison):
     with tempfile.TemporaryDirectory() as name:
         folder = Path(name)
         (folder / "states").write_bytes(OCTETS)
-        trial = Trial(["pfreplay", "states", str(folder / "states")], Seen(0, SHOWN, b""))
+        trial = trial_of(folder / "states", Seen(0, SHOWN, b""))
         made_up.compare(comparison, judge, trial, named(right_endings(), trial), named(wrong_endings(), trial))
         # standard error gets nothing of a refusal, or a part; in the last one the status doesn't tell it either
         clean = Seen(1, b"", b"pfreplay: states line 1: no state\n")
         (folder / "held").write_bytes(text_of(HELD))
-        made_up.compare(comparison, judge, Trial(["pfreplay", "states", str(folder / "held")], clean),
+        made_up.compare(comparison, judge, trial_of(folder / "held", clean),
                         lost(clean._replace(err=b""), clean._replace(err=clean.err[:9])),
                         lost(clean._replace(err=b"", status=0)))

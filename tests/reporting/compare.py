@@ -9,14 +9,11 @@ model tells the page of what it leaves. With `--model` the models alone are comp
 no program is needed.
 """
 
-import argparse
 import sys
 from collections import Counter
-from pathlib import Path
 
 sys.dont_write_bytecode = True
 
-import building
 from faults.command import ends_lawfully
 from reporting import cases, checks, files, judged, lines, made_up, model, progress, rows
 from reporting.asking import asked, command_of, expect_answer, lay_out, page_read
@@ -26,10 +23,8 @@ from reporting.reading import read
 from reporting.row import ONE
 from reporting.written import written
 from runs import model as runs_model
-from runs.comparison import a_line
-from runs.model import Outcome
 from showing.asking import run_of, without_remarks
-from standby.many import in_processes, part
+from standby.many import in_parts, in_processes, main_of
 
 # where no other number is told, and that of the models alone
 DRAWN, MODEL_DRAWN = 1000, 300
@@ -94,7 +89,7 @@ def bad_lines(comparison):
     lay_out(comparison, BROKEN)
     for words, said in lines.bad():
         seen = comparison.execute(words, home=comparison.folder)
-        comparison.expect(f"words {words}", Outcome(b"", a_line(seen, b"pfreplay: ", said), 1), seen)
+        comparison.expect_refused(f"words {words}", seen, said)
 
 
 def good_lines(comparison):
@@ -104,10 +99,7 @@ def good_lines(comparison):
         question = WITH_STATES if has_states else STATELESS
         expect_answer(comparison, f"words {words}", question, comparison.execute(words, home=comparison.folder))
     for words in (("--help",), ("report", "--help"), ("help", "report")):
-        parts = lines.HELPED if "report" in words else (b"report",)
-        seen = comparison.execute(words)
-        is_told = seen and all(each in seen.out for each in parts)
-        comparison.expect(f"words {words}", Outcome(seen.out if is_told else b"(some)", b"", 0), seen)
+        comparison.expect_help(words, lines.HELPED if "report" in words else (b"report",))
 
 
 # Faults
@@ -177,34 +169,24 @@ def expect_sums(comparison, name, page):
 
 def compare_model():
     """Whether something goes wrong with each part of the model alone."""
-    results = []
-    with part("made-up pages", None, results) as comparison:
-        made_up.compare(comparison)
-    with part("pages written by hand, by the model", None, results) as comparison:
-        model_rows(comparison)
-    with part("made-up endings of faults", None, results) as comparison:
-        judged.compare(comparison)
-    with part("made-up lines of progress", None, results) as comparison:
-        progress.compare_made_up(comparison)
+    results = in_parts(None, {
+        "made-up pages": (made_up.compare,),
+        "pages written by hand, by the model": (model_rows,),
+        "made-up endings of faults": (judged.compare,),
+        "made-up lines of progress": (progress.compare_made_up,)})
     found = in_processes(drawn_by_model, None, MODEL_DRAWN)
     return [*results, told_drawn("random questions, by the models", found)]
 
 
 def compare(program, drawn=DRAWN):
     """Whether something goes wrong with each part of the comparison with a program."""
-    results = []
     for left_out in checks.missing():
         print(f"left out: what {left_out} says of pages")
-    with part("pages written by hand and command lines", program, results) as comparison:
-        program_rows(comparison)
-        bad_lines(comparison)
-        good_lines(comparison)
-    with part("files and outputs", program, results) as comparison:
-        files.compare(comparison)
-    with part("how far a command has come", program, results) as comparison:
-        progress.compare(comparison)
-    with part("questions with a fault at each call", program, results) as comparison:
-        faults(comparison)
+    results = in_parts(program, {
+        "pages written by hand and command lines": (program_rows, bad_lines, good_lines),
+        "files and outputs": (files.compare,),
+        "how far a command has come": (progress.compare,),
+        "questions with a fault at each call": (faults,)})
     return [*results, told_drawn("random questions", in_processes(drawn_by_program, program, drawn))]
 
 
@@ -213,15 +195,7 @@ def model_alone():
 
 
 def main():
-    parser = argparse.ArgumentParser(description="Compares the command report with the model.")
-    parser.add_argument("--program", type=Path, metavar="FILE", help="the built program")
-    parser.add_argument("--drawn", type=int, default=DRAWN, metavar="N", help="how many random questions")
-    parser.add_argument("--model", action="store_true", help="compare the models with the pages written by hand")
-    words = parser.parse_args()
-    if words.model:
-        model_alone()
-    program = words.program.resolve() if words.program else building.pfreplay()
-    sys.exit(any(compare(program, words.drawn)))
+    main_of("report", compare, model_alone, DRAWN)
 
 
 if __name__ == "__main__":

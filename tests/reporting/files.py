@@ -12,14 +12,13 @@ from reporting.model import Names, Question, answer
 from reporting.row import ONE, question_of
 from reporting.rows_rules import EMPTY, UNUSED, used
 from reporting.rows_states import states_of
-from runs.comparison import a_line
 from runs.devices import feed
-from runs.model import Outcome, cannot_open, failed, refused
+from runs.model import cannot_open, failed, refused
 from showing import files as showing_files
 from showing.asking import CAPTURE, LINES, STANDARD, expect_one_of
 from showing.files import BAD, NOWHERE, UNORDERED, UNREAD, UNWRITTEN
 from showing.model import NAME
-from showing.row import BLOCKED, KNOCK, capture_of, verdicts_of
+from showing.row import KNOCK, capture_of, verdicts_of
 from workers.pipes import without_reader
 
 STATELESS = ONE
@@ -57,11 +56,8 @@ def are_unordered(things):
 
 def told_of(thing, seen):
     """What is left where a thing is spoilt alone."""
-    return {"words": Outcome(b"", a_line(seen, b"pfreplay: "), 1), "rules file": cannot_open(NOWHERE + NAME),
-            "ruleset": refused("rules line 1: left out: scrub"), "capture file": cannot_open(NOWHERE + CAPTURE),
-            "lines file": cannot_open(NOWHERE + LINES), "states file": cannot_open(NOWHERE + LEFT),
-            "capture": refused("capture: header cut"), "lines": refused("packet 1: no line of verdicts"),
-            "states": refused("states line 1: no state")}[thing]
+    of_states = {"states file": cannot_open(NOWHERE + LEFT), "states": refused("states line 1: no state")}
+    return of_states.get(thing) or showing_files.told_of(thing, seen)
 
 
 def in_order(comparison):
@@ -118,7 +114,7 @@ def odd_names(comparison):
 def of_two(comparison):
     """The second capture is missing, or a folder."""
     lay_out(comparison, TWO)
-    for name, expected in ((NOWHERE, cannot_open(NOWHERE)), (".", failed("read failed: em1, committed 0"))):
+    for name, expected in showing_files.OF_TWO:
         comparison.expect(f"the second capture from {name}", expected, asked(comparison, TWO, others=[name]))
 
 

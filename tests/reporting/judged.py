@@ -3,32 +3,22 @@ program is needed."""
 
 import tempfile
 from pathlib import Path
-from typing import NamedTuple
 
 from faults import made_up
-from faults.made_up import Ending, ending
-from faults.replay import ANSWER, CAPTURES, ERROR, MEMORY
+from faults.made_up import Ending, Trial, ending, lost
+from faults.replay import ANSWER, CAPTURES, MEMORY
 from faults.report import RULES, STATES, VERDICTS, judge, names_of, places, question_of, texts_of
-from faults.trial import Seen, name_in
+from faults.trial import Seen
 from reporting.asking import LEFT, command_of
 from reporting.files import BROKEN, LACKING, TWO, WITH_STATES
 from reporting.model import answer, page_of
 from reporting.row import ONE
 from reporting.written import written
-from showing.asking import CAPTURE, LINES
+from showing.asking import LINES
 from showing.judged import BEHIND_TWO, LINE, PACKETS, RECORD, WRITTEN
 from showing.model import NAME
 
 FIRST, SECOND = CAPTURES[:2]
-
-
-class Trial(NamedTuple):
-    """A run without a fault."""
-    command: list
-    clean: Seen
-
-    def name_of(self, file):
-        return name_in(self.command, places(self.command)[file])
 
 
 def trial_of(folder, question):
@@ -37,7 +27,8 @@ def trial_of(folder, question):
         (folder / name).write_bytes(capture)
     for name, octets in ((LINES, question.shown.verdicts), (NAME, question.case.rules), (LEFT, question.states or b"")):
         (folder / name).write_bytes(octets)
-    trial = Trial(command_of("pfreplay", folder, question), Seen(0, b"", b""))
+    command = command_of("pfreplay", folder, question)
+    trial = Trial(command, Seen(0, b"", b""), places(command))
     outcome = answer(question)
     if outcome.status:
         return trial._replace(clean=Seen(outcome.status, b"", outcome.err))
@@ -142,11 +133,6 @@ def wrong_of_two(trial):
 
 
 # Runs that are refused
-
-def lost(*seen):
-    """Endings in which standard error fails."""
-    return [Ending(f"a lost error, {one}", ERROR, "fail", one) for one in seen]
-
 
 def of_refused(trial):
     clean, said = trial.clean, trial.clean.err.decode().removeprefix("pfreplay: ").strip()

@@ -80,9 +80,4 @@ def counts_of(drawn, question):
 
 def told_drawn(title, found):
     """Prints how the random questions went, and whether something of them is wrong or comes up too seldom."""
-    is_wrong = told(title, found, PROMISED, EACH)
-    print("  " + ", ".join(f"{found.counts[name]} {name}" for name in ONCE))
-    missing = [name for name in ONCE if not found.counts[name]]
-    if missing:
-        print(f"  never seen: {', '.join(missing)}")
-    return is_wrong or bool(missing)
+    return told(title, found, PROMISED, EACH, ONCE)

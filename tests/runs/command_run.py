@@ -13,7 +13,6 @@ from runs import (also_files, cases, devices, filter_cases, filter_rows, interfa
                   message_cases, message_rows, model, random_cases, rows, same_files, setting_cases, setting_files,
                   setting_rows, standard_streams, warn_rows, warnings)
 from runs.case import EXAMPLES, INSIDE, PACKETS, Case, capture_of
-from runs.comparison import a_line
 from runs.model import FILE, NONE, OUTPUTS, PEER, Outcome
 from steps.model import STACK
 from steps.tap_cases import RULES as REDIRECTING
@@ -209,9 +208,7 @@ def good_lines(comparison):
     comparison.prepare()
     flags = tuple(f"{flag} <{lines.FORMS[flag]}>".encode() for flag in lines.HELPED)
     for words, parts in ((["--help"], ()), (["run", "--help"], flags)):
-        seen = comparison.execute(words)
-        is_told = seen and seen.out and all(part in seen.out for part in parts)
-        comparison.expect(f"words {words}", Outcome(seen.out if is_told else b"(some)", b"", 0), seen)
+        comparison.expect_help(words, parts)
 
 
 def settled_lines(comparison):
@@ -228,7 +225,7 @@ def bad_lines(comparison):
     comparison.prepare(Case("words", b"scrub in all", INSIDE, b""))
     for words, said in lines.bad():
         seen = comparison.execute(named(comparison, words))
-        comparison.expect(f"words {words}", Outcome(b"", a_line(seen, b"pfreplay: ", said), 1), seen)
+        comparison.expect_refused(f"words {words}", seen, said)
 
 
 # Examples

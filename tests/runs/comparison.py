@@ -74,6 +74,16 @@ class Comparison:
         if seen != expected:
             self.wrong.append((name, expected, seen))
 
+    def expect_refused(self, name, seen, said, status=1):
+        """A command line that doesn't fit. Of the wording what is at fault is fixed."""
+        self.expect(name, Outcome(b"", a_line(seen, b"pfreplay: ", said), status), seen)
+
+    def expect_help(self, words, parts):
+        """The help that these words ask for has these parts."""
+        seen = self.execute(words)
+        is_told = seen and seen.out and all(part in seen.out for part in parts)
+        self.expect(f"words {words}", Outcome(seen.out if is_told else b"(some)", b"", 0), seen)
+
     def add(self, count, wrong):
         """Takes what went on in another comparison."""
         self.count += count

@@ -8,16 +8,13 @@ model joins the lines that it leaves with the packets. With `--model` the models
 written by hand, and no program is needed.
 """
 
-import argparse
 import random
 import sys
 from collections import Counter
 from functools import partial
-from pathlib import Path
 
 sys.dont_write_bytecode = True
 
-import building
 import steps.place_runs
 import steps.random_runs
 import steps.translation_runs
@@ -25,15 +22,13 @@ from captures.merging import ENDED
 from changes.cases import case_of_run
 from faults.command import ends_lawfully
 from runs import model as runs_model
-from runs.comparison import a_line
-from runs.model import Outcome
 from showing import cases, files, judged, lines, readers, rows
 from showing.asking import asked, command_of, expect_answer, expect_one_of, lay_out, run_of, without_remarks
 from showing.files import BROKEN, CUT, LACKING, ONE, TWO
 from showing.kinds import counts_of, told_drawn
 from showing.model import COUNT, JSON, PFLOG, TEXT, Asked, Question, answer, answers
 from showing.rows_asked import of_six
-from standby.many import in_processes, part
+from standby.many import in_parts, in_processes, main_of
 from steps.settings import PLAIN
 
 # where no other number is told, and that of the models alone
@@ -67,7 +62,7 @@ def bad_lines(comparison):
     lay_out(comparison, BROKEN)
     for words, said in lines.bad():
         seen = comparison.execute(words, home=comparison.folder)
-        comparison.expect(f"words {words}", Outcome(b"", a_line(seen, b"pfreplay: ", said), 1), seen)
+        comparison.expect_refused(f"words {words}", seen, said)
 
 
 def good_lines(comparison):
@@ -79,10 +74,7 @@ def good_lines(comparison):
         seen = comparison.execute(["show", *words], home=comparison.folder)
         expect_one_of(comparison, f"words {words}", answers(fitting), seen)
     for words in (("--help",), ("show", "--help"), ("help", "show")):
-        parts = lines.HELPED if "show" in words else (b"show",)
-        seen = comparison.execute(words)
-        is_told = seen and all(each in seen.out for each in parts)
-        comparison.expect(f"words {words}", Outcome(seen.out if is_told else b"(some)", b"", 0), seen)
+        comparison.expect_help(words, lines.HELPED if "show" in words else (b"show",))
 
 
 # Faults
@@ -183,30 +175,21 @@ def expect_alike(comparison, question):
 
 def compare_model():
     """Whether something goes wrong with each part of the model alone."""
-    results = []
-    with part("answers written by hand, by the model", None, results) as comparison:
-        model_rows(comparison)
-    with part("made-up endings of faults", None, results) as comparison:
-        judged.compare(comparison)
-    with part("what other readers say, of the model", None, results) as comparison:
-        read_by_model(comparison)
+    results = in_parts(None, {
+        "answers written by hand, by the model": (model_rows,),
+        "made-up endings of faults": (judged.compare,),
+        "what other readers say, of the model": (read_by_model,)})
     found = in_processes(drawn_by_model, None, MODEL_DRAWN)
     return [*results, told_drawn("random questions, by the models", found)]
 
 
 def compare(program, drawn=DRAWN):
     """Whether something goes wrong with each part of the comparison with a program."""
-    results = []
-    with part("answers written by hand and command lines", program, results) as comparison:
-        program_rows(comparison)
-        bad_lines(comparison)
-        good_lines(comparison)
-    with part("files and outputs", program, results) as comparison:
-        files.compare(comparison)
-    with part("questions with a fault at each call", program, results) as comparison:
-        faults(comparison)
-    with part("what other readers say", program, results) as comparison:
-        read_by_program(comparison)
+    results = in_parts(program, {
+        "answers written by hand and command lines": (program_rows, bad_lines, good_lines),
+        "files and outputs": (files.compare,),
+        "questions with a fault at each call": (faults,),
+        "what other readers say": (read_by_program,)})
     return [*results, told_drawn("random questions", in_processes(drawn_by_program, program, drawn))]
 
 
@@ -215,15 +198,7 @@ def model_alone():
 
 
 def main():
-    parser = argparse.ArgumentParser(description="Compares the command show with the model.")
-    parser.add_argument("--program", type=Path, metavar="FILE", help="the built program")
-    parser.add_argument("--drawn", type=int, default=DRAWN, metavar="N", help="how many random questions")
-    parser.add_argument("--model", action="store_true", help="compare the models with the answers written by hand")
-    words = parser.parse_args()
-    if words.model:
-        model_alone()
-    program = words.program.resolve() if words.program else building.pfreplay()
-    sys.exit(any(compare(program, words.drawn)))
+    main_of("show", compare, model_alone, DRAWN)
 
 
 if __name__ == "__main__":

@@ -27,6 +27,8 @@ LACKING = ONE._replace(verdicts=ONE.verdicts[:-1])
 UNWRITTEN = failed("write failed: standard output")
 UNREAD = failed("read failed, committed 0")
 NOWHERE = "nowhere/file"
+# names for the second of two captures, with what is left
+OF_TWO = ((NOWHERE, cannot_open(NOWHERE)), (".", failed("read failed: em1, committed 0")))
 PIECES = (1, 7, 24, 1000)
 
 
@@ -97,7 +99,7 @@ def odd_files(comparison):
 def of_two(comparison):
     """The second capture is missing, or a folder."""
     lay_out(comparison, TWO)
-    for name, expected in ((NOWHERE, cannot_open(NOWHERE)), (".", failed("read failed: em1, committed 0"))):
+    for name, expected in OF_TWO:
         comparison.expect(f"the second capture from {name}", expected, asked(comparison, TWO, others=[name]))
 
 

@@ -3,13 +3,12 @@ program is needed."""
 
 import tempfile
 from pathlib import Path
-from typing import NamedTuple
 
 from faults import made_up
-from faults.made_up import Ending, ending
-from faults.replay import ANSWER, CAPTURES, ERROR, MEMORY
+from faults.made_up import Ending, Trial, ending, lost
+from faults.replay import ANSWER, CAPTURES, MEMORY
 from faults.show import RULES, VERDICTS, judge, places
-from faults.trial import Seen, name_in
+from faults.trial import Seen
 from showing.asking import CAPTURE, LINES, command_of
 from showing.model import COUNT, JSON, NAME, PFLOG, answer
 from showing.row import BLOCK, BLOCKED, KNOCK, capture_of, question_of, several, text_of, verdicts_of
@@ -29,15 +28,6 @@ BROKEN = ONE._replace(case=ONE.case._replace(rules=b"scrub in all"))
 WRITTEN = "write failed: standard output"
 
 
-class Trial(NamedTuple):
-    """A run without a fault."""
-    command: list
-    clean: Seen
-
-    def name_of(self, file):
-        return name_in(self.command, places(self.command)[file])
-
-
 def trial_of(folder, question):
     """The run of a question without a fault, whose files are written."""
     for place, capture in enumerate(question.case.captures()):
@@ -45,7 +35,8 @@ def trial_of(folder, question):
     (folder / LINES).write_bytes(question.verdicts)
     (folder / NAME).write_bytes(question.case.rules)
     out, err, status, _ = answer(question)
-    return Trial(command_of("pfreplay", folder, question), Seen(status, out, err))
+    command = command_of("pfreplay", folder, question)
+    return Trial(command, Seen(status, out, err), places(command))
 
 
 def beginning(trial, count):
@@ -181,11 +172,6 @@ def wrong_of_pflog(trial):
 
 
 # Runs that are refused
-
-def lost(*seen):
-    """Endings in which standard error fails."""
-    return [Ending(f"a lost error, {one}", ERROR, "fail", one) for one in seen]
-
 
 def compare_refused(comparison, trial):
     """A run that is refused may tell that, or the fault. Standard error gets nothing of it, or a part."""

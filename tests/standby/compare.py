@@ -18,13 +18,12 @@ import building
 from faults.command import ends_lawfully
 from faults.standby import MESSAGES, octets_of, places
 from faults.trial import Fault, Trial
-from runs.comparison import a_line
 from runs.model import FILE, PEER, Outcome
 from runs.peers import HOST
 from runs.rows import case_of
 from standby import after_runs, asking, damaged, devices, judged, lines, rows
 from standby.callers import free_port
-from standby.many import in_processes, part, told
+from standby.many import in_parts, in_processes, told
 from standby.model import answer
 from standby.streams import spelled
 
@@ -95,11 +94,9 @@ def command_lines(comparison):
         here = f"{HOST}:{free_port()}"
         named = [{lines.MESSAGES: messages, lines.HERE: here}.get(word, word) for word in words]
         seen = comparison.execute(named)
-        comparison.expect(f"words {words}", Outcome(b"", a_line(seen, b"pfreplay: ", said), 1), seen)
+        comparison.expect_refused(f"words {words}", seen, said)
     for words, parts in ((["--help"], (b"standby",)), (["standby", "--help"], lines.HELP)):
-        seen = comparison.execute(words)
-        is_told = seen and all(text in seen.out for text in parts)
-        comparison.expect(f"words {words}", Outcome(seen.out if is_told else b"(some)", b"", 0), seen)
+        comparison.expect_help(words, parts)
 
 
 def faults(comparison):
@@ -117,11 +114,9 @@ def faults(comparison):
 # All of it
 
 def model_alone():
-    results = []
-    with part("answers written by hand, by the model", None, results) as comparison:
-        model_rows(comparison)
-    with part("made-up endings of faults", None, results) as comparison:
-        judged.compare(comparison)
+    results = in_parts(None, {
+        "answers written by hand, by the model": (model_rows,),
+        "made-up endings of faults": (judged.compare,)})
     results.append(told("random runs, by the models", in_processes(after_runs.by_model, None, MODEL_RUNS)))
     results.append(told("streams with damage and beginnings of them, by the model",
                         in_processes(damaged.by_model, None, damaged.blocks_of(MODEL_DAMAGED)), damaged.COUNTED,
@@ -144,14 +139,11 @@ def compare_runs(program, count, results):
 
 def compare_standby(program, asked, results):
     """What the command answers."""
-    with part("answers written by hand", program, results) as comparison:
-        program_rows(comparison)
-    with part("command lines", program, results) as comparison:
-        command_lines(comparison)
-    with part("files, outputs and connections", program, results) as comparison:
-        devices.compare(comparison)
-    with part("streams with a fault at each call", program, results) as comparison:
-        faults(comparison)
+    results += in_parts(program, {
+        "answers written by hand": (program_rows,),
+        "command lines": (command_lines,),
+        "files, outputs and connections": (devices.compare,),
+        "streams with a fault at each call": (faults,)})
     results.append(told("the messages of random runs", in_processes(after_runs.with_standby, program, asked.runs)))
     results.append(told("random runs in two processes", in_processes(after_runs.beside_standby, program, PAIRS)))
     found = in_processes(damaged.by_program, program, damaged.blocks_of(asked.damaged))

@@ -1,14 +1,17 @@
-"""Many cases by their numbers, in processes beside one another, and what is printed of each part of the comparison."""
+"""Many cases by their numbers, in processes beside one another, what is printed of each part of the comparison, and the
+command line of those with random questions."""
 
+import argparse
 import os
+import sys
 import tempfile
 from collections import Counter
 from concurrent.futures import ProcessPoolExecutor
-from contextlib import contextmanager
 from functools import partial
 from pathlib import Path
 from typing import NamedTuple
 
+import building
 from answering import place_of_difference
 from runs.comparison import Comparison
 from runs.model import Outcome
@@ -64,9 +67,9 @@ def show(wrong):
         print(f"{name}:\n  expected {shown(expected, place)}\n  seen     {shown(seen, place)}")
 
 
-def told(title, found, names=(), share=1):
-    """Prints how a part of the comparison went. It answers whether something is wrong: also if there is no case, or if
-    one of these things comes up less than once in `share` cases."""
+def told(title, found, names=(), share=1, once=()):
+    """Prints how a part of the comparison went. It answers whether something is wrong: also if there is no case, if one
+    of these things comes up less than once in `share` cases, or one of `once` never does."""
     print(f"{title}: {found.count} cases, {len(found.wrong)} not as expected", flush=True)
     show(found.wrong)
     seldom = [name for name in names if found.counts[name] < found.count // share]
@@ -74,13 +77,38 @@ def told(title, found, names=(), share=1):
         print("  " + ", ".join(f"{found.counts[name]} {name}" for name in names))
     if seldom:
         print(f"  too few: {', '.join(seldom)}")
-    return bool(found.wrong or seldom or not found.count)
+    missing = [name for name in once if not found.counts[name]]
+    if once:
+        print("  " + ", ".join(f"{found.counts[name]} {name}" for name in once))
+    if missing:
+        print(f"  never seen: {', '.join(missing)}")
+    return bool(found.wrong or seldom or missing or not found.count)
 
 
-@contextmanager
-def part(title, program, results):
-    """A part of the comparison, with a folder of its own. Behind it is told how it went."""
-    with tempfile.TemporaryDirectory() as folder:
-        comparison = Comparison(program, Path(folder))
-        yield comparison
-    results.append(told(title, Compared(comparison.count, comparison.wrong, {})))
+def in_parts(program, parts):
+    """Whether something goes wrong with each part of the comparison: by its title, the functions that make it up. Each
+    part has a folder of its own, and behind it is told how it went."""
+    results = []
+    for title, functions in parts.items():
+        with tempfile.TemporaryDirectory() as folder:
+            comparison = Comparison(program, Path(folder))
+            for function in functions:
+                function(comparison)
+        results.append(told(title, Compared(comparison.count, comparison.wrong, {})))
+    return results
+
+
+# Command lines of comparisons
+
+def main_of(command, compare, model_alone, drawn):
+    """Runs the comparison of a command with random questions, as the words of the process say: `drawn` of them if they
+    give no other number."""
+    parser = argparse.ArgumentParser(description=f"Compares the command {command} with the model.")
+    parser.add_argument("--program", type=Path, metavar="FILE", help="the built program")
+    parser.add_argument("--drawn", type=int, default=drawn, metavar="N", help="how many random questions")
+    parser.add_argument("--model", action="store_true", help="compare the models with the answers written by hand")
+    words = parser.parse_args()
+    if words.model:
+        model_alone()
+    program = words.program.resolve() if words.program else building.pfreplay()
+    sys.exit(any(compare(program, words.drawn)))

@@ -124,6 +124,9 @@ def tracked_cases():
                (SYN_OUT, MADE), (RST_BACK, TOUCHED_IN), (tcp(H, 1000, P, 80, SYN | ACK, 1000, 1), TOUCHED_OUT))
     yield case("a first packet that is no SYN", "pass out", (far, "out pass default r=- s=-; 0; -"), states="")
     yield case("a first packet that is no SYN, by a rule for any flags", "pass out flags any", (far, MADE))
+
+
+def key_cases():
     yield case("UDP and TCP of the same ends", "block in\npass out",
                (SYN_OUT, "out pass rule r=1 s=1; 0,1; made 1"), (udp(P, 80, H, 1000), "in block rule r=0 s=-; 0,1; -"),
                (udp(H, 1000, P, 80), "out pass rule r=1 s=3; 0,1; made 3"))
@@ -288,6 +291,7 @@ def cases():
     yield from fragment_cases()
     yield from error_cases.cases(case)
     yield from tracked_cases()
+    yield from key_cases()
     yield from segment_cases()
     yield from filter_cases()
     yield from option_cases()

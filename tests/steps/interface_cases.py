@@ -173,6 +173,10 @@ def nat_cases():
                (1, ASKED, "out pass rule r=1 t=- s=1; 0,1 0; made 1; -"), (0, ASKED, touched(1, "out")),
                (0, SECOND, made("out", "192.0.2.9:50001", 3, 1, visited="0,1 0"), udp(B, 50001, P, 53)),
                bindings={1: "1/-", 3: "0/-"})
+
+
+def nat_address_cases():
+    """The addresses that are given on several interfaces, and the rules of the filter behind them."""
     default = made("out", ONE_END, rule="-", visited="0 0", reason="default")
     yield case("a rule of the filter on another interface than that of the translation",
                f"{BOUND}{ONE_PORT}\npass out on em1", (0, ASKED, default, WIRE), (1, ASKED, untranslated("out", 2)),
@@ -237,5 +241,6 @@ def binat_cases():
 
 
 def cases():
-    for make in (on_cases, bound_cases, skip_cases, own_cases, form_cases, nat_cases, rdr_cases, binat_cases):
+    for make in (on_cases, bound_cases, skip_cases, own_cases, form_cases, nat_cases, nat_address_cases, rdr_cases,
+                 binat_cases):
         yield from make()

@@ -71,6 +71,10 @@ def redirected_cases():
                   (REPLY_AT_STACK, "out block rule r=0 s=-; 0; -"))
     yield on_wire("a redirected connection whose state has run out", RULES, (0, *FIRST), (59, REPLY, BY_STATE),
                   (89, REPLY, BLOCKED), states="")
+
+
+def protocol_cases():
+    """Redirected connections of other protocols than UDP, and such as are redirected otherwise."""
     opening, reply = tcp(P, 9, E, 80, SYN, 1000), tcp(E, 80, P, 9, SYN | ACK, 5000, 1001)
     yield on_wire("a redirected connection of TCP on the wire", TO_PORT,
                   (opening, made("in", "10.0.0.1:8080", visited="0,1 0"), tcp(P, 9, SERVER, 8080, SYN, 1000)),
@@ -255,5 +259,6 @@ def placed_cases():
 
 
 def cases():
-    for make in (redirected_cases, key_cases, option_cases, translated_cases, stateless_cases, error_cases):
+    for make in (redirected_cases, protocol_cases, key_cases, option_cases, translated_cases, stateless_cases,
+                 error_cases):
         yield from make()

@@ -67,6 +67,9 @@ def look_ups():
         make 0 A A 99 60 - 5 = done
         at stack A - 5 = 0 A A 99 60 - 5
         """)
+
+
+def places_and_sides():
     yield row("the first place and the last", 9, """
         make 1 A A 60 10 - 255 = done
         make 2 A A 60 20 - 0 = done
@@ -127,6 +130,9 @@ def deadlines():
         at wire A 1 10 = none
         at wire A - 30 = none
         """)
+
+
+def deadlines_of_three():
     yield row("of three the one between has time left", 9, """
         make 1 A A 10 10 - 2 = done
         make 2 A A 30 20 - 0 = done
@@ -143,6 +149,9 @@ def deadlines():
         touch 1 A A 12 12 - 2 = done
         at stack A - 12 = 2 A A 15 21 - 0
         """)
+
+
+def purges():
     yield row("a purge takes the least one", 9, """
         make 1 A A 10 10 - 0 = done
         make 2 A A 30 20 - 1 = done
@@ -209,6 +218,9 @@ def refusals():
         make 3 A B 60 30 - 2 = done
         make 4 B A 60 40 - - = key taken
         """)
+
+
+def keys_and_room():
     yield row("a key is free once the last one is gone that has it", 9, """
         make 1 A A 60 10 - 0 = done
         make 2 A A 60 20 - 1 = done
@@ -246,6 +258,9 @@ def refusals():
         rule_room 4 2 5 = no
         rule_room 5 2 5 = no
         """)
+
+
+def numbers():
     yield row("a number that is used again", 9, """
         make 1 A A 60 10 - 0 = done
         make 1 A A 60 11 - 0 = key taken
@@ -292,7 +307,7 @@ def removals():
         """)
 
 
-def touches():
+def moves():
     yield row("a state moves to another interface", 9, """
         make 1 A A 60 10 - 0 = done
         touch 1 A A 70 11 - 1 = done
@@ -331,6 +346,9 @@ def touches():
         at stack A - 5 = 1 C A 60 11 - 1
         at stack A 2 5 = 3 B A 60 30 - 2
         """)
+
+
+def new_bindings_and_keys():
     yield row("a bound state becomes a floating one, and a floating one a bound one", 9, """
         make 1 A A 60 10 - 0 = done
         make 2 A A 60 20 - 1 = done
@@ -369,6 +387,9 @@ def touches():
         at wire A 1 15 = none
         at wire A 0 15 = 2 A A 60 21 - 0
         """)
+
+
+def touches():
     yield row("the touch of a number that no state has", 9, """
         make 1 A A 60 10 - 0 = done
         touch 9 A A 60 90 - 0 = key taken
@@ -396,5 +417,6 @@ def touches():
 
 def rows():
     """Lists of calls with answers written by hand."""
-    for some in (look_ups, deadlines, refusals, removals, touches):
+    for some in (look_ups, places_and_sides, deadlines, deadlines_of_three, purges, refusals, keys_and_room,
+                 numbers, removals, moves, new_bindings_and_keys, touches):
         yield from some()

@@ -20,11 +20,10 @@ from expansions.hostile import addresses, nested
 from faults.command import ends_lawfully
 from runs import model as runs_model
 from runs.check_cases import FITTING, MOST_TEXT, RULES
-from runs.comparison import a_line
 from runs.model import Outcome, cannot_open, failed
 from standby.after_runs import ALONE
 from standby.cases import case_at as run_at
-from standby.many import in_processes, part, told
+from standby.many import in_parts, in_processes, told
 from steps.replay import ruleset_of
 from telling import asking, cases, deciding, judged, kinds, lines, model, rows, rows_adapted, rows_counters
 from telling.asking import answered, checked, interface_words, words_of
@@ -153,16 +152,14 @@ def command_lines(comparison):
     (folder / RULES).write_bytes(b"scrub in all\n")
     for words, said in lines.bad():
         seen = comparison.execute(["rules", *words], home=folder)
-        comparison.expect(f"words {words}", Outcome(b"", a_line(seen, b"pfreplay: ", said), 1), seen)
+        comparison.expect_refused(f"words {words}", seen, said)
     (folder / RULES).write_bytes(TOGETHER)
     expected = model.answer(Asked(TOGETHER, TWO, TOGETHER_COUNTERS))
     for words in lines.good():
         comparison.expect(f"words {words}", expected, comparison.execute(["rules", *words], home=folder))
     own = b"<RULES>", b"--counters", b"--also", b"--adapt"
     for words, parts in ((("--help",), (b"rules",)), (("rules", "--help"), own), (("help", "rules"), own)):
-        seen = comparison.execute(words)
-        is_told = seen and all(each in seen.out for each in parts)
-        comparison.expect(f"words {words}", Outcome(seen.out if is_told else b"(some)", b"", 0), seen)
+        comparison.expect_help(words, parts)
 
 
 def other_commands(comparison):
@@ -312,11 +309,9 @@ def after_run_by_model(comparison, number):
 
 def compare_model():
     """Whether the model or the judge of faults answers otherwise than is written by hand, or a kind is too rare."""
-    results = []
-    with part("answers written by hand, by the model", None, results) as comparison:
-        model_rows(comparison)
-    with part("made-up endings of faults", None, results) as comparison:
-        judged.compare(comparison)
+    results = in_parts(None, {
+        "answers written by hand, by the model": (model_rows,),
+        "made-up endings of faults": (judged.compare,)})
     found = in_processes(deciding.case_at, None, deciding.RULESETS)
     results.append(told("packets near the rules of drawn rulesets", found, deciding.SEEN))
     found = in_processes(drawn_case_by_model, None, MODEL_DRAWN)
@@ -328,14 +323,11 @@ def compare_model():
 
 def compare(program, drawn=DRAWN, runs=RUNS):
     """The same of the program."""
-    results = []
-    with part("answers written by hand, command lines, files and outputs", program, results) as comparison:
-        for some in (program_rows, program_adapted, command_lines, other_commands, files, outputs):
-            some(comparison)
-    with part("rulesets of as many rules as there may be", program, results) as comparison:
-        long_rulesets(comparison)
-    with part("rulesets and counters with a fault at each call", program, results) as comparison:
-        faults(comparison)
+    results = in_parts(program, {
+        "answers written by hand, command lines, files and outputs": (
+            program_rows, program_adapted, command_lines, other_commands, files, outputs),
+        "rulesets of as many rules as there may be": (long_rulesets,),
+        "rulesets and counters with a fault at each call": (faults,)})
     found = in_processes(drawn_case, program, drawn)
     results.append(told_of_drawn("drawn rulesets", found))
     found = in_processes(after_run, program, runs)

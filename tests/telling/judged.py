@@ -3,10 +3,9 @@ program is needed."""
 
 import tempfile
 from pathlib import Path
-from typing import NamedTuple
 
 from faults import made_up
-from faults.made_up import Ending, ending
+from faults.made_up import Trial, ending, lost
 from faults.replay import ANSWER, ERROR, MEMORY
 from faults.rules import COUNTERS, COUNTERS_FLAG, RULES, judge, places
 from faults.trial import Seen
@@ -23,15 +22,6 @@ SHOWN, FIRST_SHOWN = text_of(TOLD_BLOCK, TOLD_PASS), text_of(TOLD_BLOCK)
 # what is said of files, whose names stand for these
 RULES_FILE, COUNTERS_FILE = "RULES_FILE", "COUNTERS_FILE"
 WRITE_FAILED, NOT_OF_RULES = "write failed: standard output", "counters line 1: not of this ruleset"
-
-
-class Trial(NamedTuple):
-    """A run without a fault."""
-    command: list
-    clean: Seen
-
-    def name_of(self, file):
-        return self.command[places(self.command)[file]]
 
 
 def right_endings():
@@ -97,29 +87,24 @@ def named(endings, trial):
         yield each._replace(seen=each.seen._replace(err=err))
 
 
-def lost(*seen):
-    """Endings in which standard error fails."""
-    return [Ending(f"a lost error, {one}", ERROR, "fail", one) for one in seen]
-
-
-def command_of(folder, text, counters=None):
-    """A command whose files are written into the folder."""
+def trial_of(folder, clean, text, counters=None):
+    """A run without a fault, whose files are written into the folder."""
     words = ["pfreplay", "rules", str(folder / "rules"), *interface_words(TWO)]
     (folder / "rules").write_bytes(text)
     if counters is not None:
         (folder / "counters").write_bytes(counters)
         words += [COUNTERS_FLAG, str(folder / "counters")]
-    return words
+    return Trial(words, clean, places(words))
 
 
 def compare(comparison):
     """The comparison keeps how many endings there are, and which are judged wrongly."""
     with tempfile.TemporaryDirectory() as name:
         folder = Path(name)
-        trial = Trial(command_of(folder, TEXT, COUNTS), Seen(0, SHOWN, b""))
+        trial = trial_of(folder, Seen(0, SHOWN, b""), TEXT, COUNTS)
         made_up.compare(comparison, judge, trial, named(right_endings(), trial), named(wrong_endings(), trial))
         # standard error gets nothing of a refusal, or a part; in the last one the status doesn't tell it either
         clean = Seen(1, b"", b"pfreplay: rules line 1: left out: scrub\n")
-        made_up.compare(comparison, judge, Trial(command_of(folder, b"scrub"), clean),
+        made_up.compare(comparison, judge, trial_of(folder, clean, b"scrub"),
                         lost(clean._replace(err=b""), clean._replace(err=clean.err[:9])),
                         lost(clean._replace(err=b"", status=0)))
