@@ -8,15 +8,15 @@
 //! holds a byte that is 0 where it comes in and else 1, the clock (4), its total length (2), its kind (1), and of TCP's
 //! header the sequence number (4), the acknowledged one (4), the flags (1), the window (2), the shift (1, 255 for none)
 //! and the length of the payload (2).
+use crate::parts::{key, rules};
 use crate::printing::put_state;
 use bitflags::Flags;
 use pfr_headers::{
     IcmpHeader, IcmpMessage, IcmpType, Inner, Packet, TcpFlags, TcpHeader, Transport, UdpHeader,
 };
-use pfr_net::{Direction, Endpoint, Ipv4Address, Port, Protocol};
+use pfr_net::{Direction, Ipv4Address, Port, Protocol};
 use pfr_track::{
-    Binding, Clock, InterfacePlace, Key, RuleNumber, State, StateNumber, StateRules, Timeouts,
-    Touch, make, touch,
+    Clock, InterfacePlace, Key, State, StateNumber, StateRules, Timeouts, Touch, make, touch,
 };
 use scripts::Given;
 use std::alloc::{AllocError, Global};
@@ -37,44 +37,6 @@ struct Arrival {
     direction: Direction,
     clock: Clock,
     packet: Packet,
-}
-
-fn endpoint(given: &mut Given<'_>) -> Endpoint {
-    let address = Ipv4Address(given.number());
-    let port = Port(given.short());
-    Endpoint { address, port }
-}
-
-fn key(given: &mut Given<'_>, protocol: Protocol) -> Key {
-    let outside = endpoint(given);
-    let inside = endpoint(given);
-    Key {
-        protocol,
-        outside,
-        inside,
-    }
-}
-
-fn rule(given: &mut Given<'_>) -> Option<RuleNumber> {
-    let is_there = given.byte();
-    let number = given.number();
-    if is_there == 0 {
-        None
-    } else {
-        Some(RuleNumber(number as usize))
-    }
-}
-
-fn rules(given: &mut Given<'_>) -> StateRules {
-    let filter = rule(given);
-    let translation = rule(given);
-    StateRules {
-        filter,
-        translation,
-        is_synchronised: true,
-        allows_options: false,
-        binding: Binding::All,
-    }
 }
 
 fn timeouts(given: &mut Given<'_>) -> Timeouts {

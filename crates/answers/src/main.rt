@@ -17,6 +17,7 @@ mod commits;
 mod conversations;
 mod expansions;
 mod messages;
+mod parts;
 mod printing;
 mod rulesets;
 mod steps;

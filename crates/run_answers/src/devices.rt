@@ -4,7 +4,7 @@
 //!
 //!     rules BYTES               the ruleset's text
 //!     capture BYTES             the capture of em0, which has 192.0.2.1/24; packets from 10.0.0.0/8 go out
-//!     batch COUNT               how many packets each batch is, from 1 to 4096; 256 if it isn't said
+//!     batch COUNT               how many packets each batch has, from 1 to 4096; 256 if it isn't said
 //!     workers COUNT             how many workers evaluate packets ahead, up to 64; none if it isn't said
 //!     source MOST CALLS         the capture gives MOST bytes a read at most, and the read behind CALLS others fails; `-` for neither
 //!     sink OUTPUT MOST CALLS    likewise an output: `verdicts`, `packets`, `counters`, `states` or `messages`

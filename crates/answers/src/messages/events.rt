@@ -10,52 +10,15 @@
 //! peers (12 each: code, what stands behind the bytes sent and those that may be sent, window, and the shift, 255 for none), when
 //! it was made (4), its deadline (8), the timeout's code (1), and packets and bytes its maker's way and the other way (8 each).
 use crate::messages::printing::put_content;
-use pfr_net::{Direction, Endpoint, IfName, Ipv4Address, Port, Protocol, RuleNumber, Timeout};
+use crate::parts::{key, rules};
+use pfr_net::{Direction, IfName, Protocol, Timeout};
 use pfr_sync::{Event, EventKind, Message, Queue};
 use pfr_track::{
-    Binding, Clock, DatagramPeer, Deadline, InterfacePlace, Key, Peers, Sequence, State,
-    StateNumber, StateRules, TcpPeer, TcpPeerState, Traffic,
+    Clock, DatagramPeer, Deadline, InterfacePlace, Peers, Sequence, State, StateNumber, TcpPeer,
+    TcpPeerState, Traffic,
 };
 use scripts::Given;
 use std::alloc::{AllocError, Global};
-
-fn endpoint(given: &mut Given<'_>) -> Endpoint {
-    let address = Ipv4Address(given.number());
-    let port = Port(given.short());
-    Endpoint { address, port }
-}
-
-fn key(given: &mut Given<'_>, protocol: Protocol) -> Key {
-    let outside = endpoint(given);
-    let inside = endpoint(given);
-    Key {
-        protocol,
-        outside,
-        inside,
-    }
-}
-
-fn rule(given: &mut Given<'_>) -> Option<RuleNumber> {
-    let is_there = given.byte();
-    let number = given.number();
-    if is_there == 0 {
-        None
-    } else {
-        Some(RuleNumber(number as usize))
-    }
-}
-
-fn rules(given: &mut Given<'_>) -> StateRules {
-    let filter = rule(given);
-    let translation = rule(given);
-    StateRules {
-        filter,
-        translation,
-        is_synchronised: true,
-        allows_options: false,
-        binding: Binding::All,
-    }
-}
 
 fn tcp_peer(given: &mut Given<'_>) -> TcpPeer {
     let state = TcpPeerState::of_code(given.byte()).unwrap_or(TcpPeerState::TimeWait);
