@@ -1,6 +1,6 @@
 //! Whether a packet meets all criteria of a flat rule or an anchor (pf.conf(5), "Parameters").
 //!
-//! A helper of `pfr_rules`, `pfr_packet`, `pfr_shadows` and `pfr_warnings`.
+//! A helper of `pfr_rules`, `pfr_packet`, `pfr_shadows` and `pfr_notices`.
 //!
 //! [`rule_holds`] and [`anchor_holds`] test one packet on one interface, by the entries of the ruleset's tables.
 //! [`ask_rule`] and [`ask_translation`] also say at which criterion a rule fails, and [`pins_in`] which values a packet

@@ -1,7 +1,7 @@
 //! What is rewritten of a ruleset text by the words of a statement alone, without what macros, tables or surroundings
 //! say.
 //!
-//! A helper of the crates that rewrite texts: `pfr_spelling`, `pfr_rewrite`, `pfr_adapt` and `pfr_prepare`.
+//! A helper of the crates that rewrite texts: `pfr_spelling`, `pfr_rewrite` and `pfr_prepare`.
 //!
 //! [`changing::change_at`] answers what is rewritten at the front of some words, as a [`change::Change`] with its
 //! reason. [`applying::rewritten`] makes the text with all changes, and [`tracing::traced`] also says where its bytes
