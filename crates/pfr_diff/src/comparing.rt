@@ -9,11 +9,10 @@ use crate::decision::Meaning;
 use crate::side::Side;
 use pfr_capture::{Record, Source, Tail};
 use pfr_commit::{Gate, Unwatched};
-use pfr_feed::viewed;
+use pfr_feed::{Sources, Stop, give_back, stop_for, viewed};
 use pfr_headers::View;
 use pfr_listing::{first_line, judged_in};
 use pfr_merge::Merge;
-use pfr_out::{Sources, Stop, give_back, stop_for};
 use pfr_wording::RulesTold;
 use std::alloc::{AllocError, Global};
 

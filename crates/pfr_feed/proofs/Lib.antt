@@ -1,3 +1,4 @@
 pub mod CallLemmas
+pub mod ReadingLemmas
 pub mod TakeLemmas
 pub mod ViewLemmas

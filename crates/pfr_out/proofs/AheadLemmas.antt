@@ -11,16 +11,16 @@ use Rattle.pfr_capture.specs.declared.capture.Record.{Record}
 use Rattle.pfr_commit.specs.Emissions.{frame_of}
 use Rattle.pfr_commit.specs.World.{Frame, World, opening, world_after, world_of}
 use Rattle.pfr_merge.specs.MergeReading.{HasMerged, LacksRecordAt, MayFollowAll, StopsAt, Waiting, header_in, joined}
-use Rattle.pfr_out.specs.declared.report.Output.{Output}
-use Rattle.pfr_out.specs.declared.report.Stop.TheVariants as stop
+use Rattle.pfr_feed.specs.declared.report.Output.{Output}
+use Rattle.pfr_feed.specs.declared.report.Stop.TheVariants as stop
 use Rattle.pfr_out.specs.declared.sinks.Sinks.{Sinks}
-use Rattle.pfr_out.specs.Captures.{CapturesGive, End}
+use Rattle.pfr_feed.specs.Captures.{CapturesGive, End}
 use Rattle.pfr_out.specs.Outputs.{Grew, Outputs, PartWritten, headers_alone, texts_alone}
-use Rattle.pfr_out.specs.Reading.{AllGave, BatchSays, wants_memory}
+use Rattle.pfr_feed.specs.Reading.{AllGave, BatchSays, wants_memory}
 use Rattle.pfr_out.specs.Replay.{Holds, HoldsAll, HoldsAllRead, IsBoundary, OfEvery, Stopped}
 use Rattle.pfr_out.specs.Spelling.{Run}
 use Rattle.pfr_out.specs.Taking.{Add}
-use Rattle.pfr_out.proofs.ReadingLemmas.{gave_nothing}
+use Rattle.pfr_feed.proofs.ReadingLemmas.{gave_nothing}
 use Rattle.pfr_out.proofs.RunLemmas.{Ended, SoFar, Took, all_leave, at_start, batch_given, batch_taken, counted_by, frames_of, give_all, give_too_long, holds_all_read, holds_part_of_batch, holds_so_far, says_on}
 
 -- ---- batches that wait

@@ -16,12 +16,12 @@ use Rattle.pfr_commit.proofs.OnlineLemmas.{online_grows}
 use Rattle.pfr_merge.specs.MergeReading.{joined}
 use Rattle.pfr_merge.specs.MergedCaptures.{AreOpened}
 use Rattle.pfr_merge.proofs.ListLemmas.{continue_long, continue_self, give_opened, one_give, opened_longer}
-use Rattle.pfr_out.specs.declared.report.Output.{Output}
-use Rattle.pfr_out.specs.declared.report.Output.TheVariants as output
-use Rattle.pfr_out.specs.declared.report.Stop.{Stop}
-use Rattle.pfr_out.specs.declared.report.Stop.TheVariants as stop
+use Rattle.pfr_feed.specs.declared.report.Output.{Output}
+use Rattle.pfr_feed.specs.declared.report.Output.TheVariants as output
+use Rattle.pfr_feed.specs.declared.report.Stop.{Stop}
+use Rattle.pfr_feed.specs.declared.report.Stop.TheVariants as stop
 use Rattle.pfr_out.specs.declared.sinks.Sinks.{Sinks}
-use Rattle.pfr_out.specs.Captures.{BeginWith, CapturesGive, End, frame_in, headers_of}
+use Rattle.pfr_feed.specs.Captures.{BeginWith, CapturesGive, End, frame_in, headers_of}
 use Rattle.pfr_out.specs.Outputs.{Extends, Grew, OutputTexts, Outputs, PartWritten, Untouched, headers_alone, of_output, output_text, texts_alone, turn}
 use Rattle.pfr_out.specs.Replay.{Begins, Holds, HoldsAll, HoldsAllRead, HoldsPartOfBatch, HoldsPartOfEnding, HoldsPartOfHeaders, OfEvery, Refused, Stopped, closing, committed_of, online, replay_of, whole}
 use Rattle.pfr_out.specs.Spelling.{Run}

@@ -17,14 +17,14 @@ use Rattle.pfr_feed.specs.Runs.{Call, Calls, Cut, IsPiece, Over, Point, Refused,
 use Rattle.pfr_feed.specs.Runs.Call.{ended, gave, rested, took}
 use Rattle.pfr_out.specs.declared.feeding.Cut.{Cut as Why}
 use Rattle.pfr_out.specs.declared.feeding.Feeding.{Feeding}
-use Rattle.pfr_out.specs.declared.report.Stop.{Stop}
-use Rattle.pfr_out.specs.declared.report.Stop.TheVariants as stop
+use Rattle.pfr_feed.specs.declared.report.Stop.{Stop}
+use Rattle.pfr_feed.specs.declared.report.Stop.TheVariants as stop
 use Rattle.pfr_out.specs.declared.settings.Form.{Form}
 use Rattle.pfr_out.specs.declared.sinks.Sinks.{Sinks}
 use Rattle.pfr_out.specs.Feedings.{Behind, CutsOff, Ends, Fresh, Gives, Reads, Rests, Same, Takes, Writes, piece_alone, stop_by, stop_of, transitions_of}
 use Rattle.pfr_out.specs.Outputs.{Grew, KeepsMessages, OutputTexts, PartWritten, RoseAt, Stay, each_of, texts_alone}
-use Rattle.pfr_out.specs.Captures.{End}
-use Rattle.pfr_out.specs.Reading.{AllGave, BatchFails, BatchSays, wants_memory}
+use Rattle.pfr_feed.specs.Captures.{End}
+use Rattle.pfr_feed.specs.Reading.{AllGave, BatchFails, BatchSays, wants_memory}
 use Rattle.pfr_out.specs.Replay.{StopFails, Stopped}
 use Rattle.pfr_out.specs.Spelling.{Run, source_of}
 use Rattle.pfr_out.specs.Taking.{Add, IsPastHeader, Reaches, SinksFail}

@@ -20,20 +20,22 @@ use Rattle.pfr_merge.specs.MergedCaptures.{TextsGive}
 use Rattle.pfr_merge.specs.Opening.{OpeningFails, OpeningStops, ReadingFails}
 use Rattle.pfr_merge.proofs.ListLemmas.{all_give, failed_give, follow_long, headers_are, too_long_give}
 use Rattle.pfr_merge.proofs.MergeReadingLemmas.{joined_assoc}
-use Rattle.pfr_out.specs.declared.report.Output.{Output}
-use Rattle.pfr_out.specs.declared.report.Report.{Report}
-use Rattle.pfr_out.specs.declared.report.Stop.{Stop}
-use Rattle.pfr_out.specs.declared.report.Stop.TheVariants as stop
+use Rattle.pfr_feed.specs.declared.report.Output.{Output}
+use Rattle.pfr_feed.specs.declared.report.Report.{Report}
+use Rattle.pfr_feed.specs.declared.report.Stop.{Stop}
+use Rattle.pfr_feed.specs.declared.report.Stop.TheVariants as stop
 use Rattle.pfr_out.specs.declared.settings.Form.{Form as MessageForm}
 use Rattle.pfr_out.specs.declared.settings.Settings.{Settings}
 use Rattle.pfr_out.specs.declared.sinks.Sinks.{Sinks}
-use Rattle.pfr_out.specs.Captures.{BeginWith, CapturesGive, End, frame_in, headers_of}
+use Rattle.pfr_feed.specs.Captures.{BeginWith, CapturesGive, End, frame_in, headers_of}
 use Rattle.pfr_out.specs.Outputs.{Extends, Grew, Outputs, PartWritten, headers_alone, texts_alone}
-use Rattle.pfr_out.specs.Reading.{AllGave, BatchFails, BatchSays, GaveRecords, wants_memory}
-use Rattle.pfr_out.specs.Replay.{Failing, Holds, HoldsAllRead, HoldsAll, IsBoundary, IsJob, OfEvery, Replayed, StopFails, StopOf, Stopped, StopsUntold, closing, online, run_settings, run_with, stop_for, whole}
+use Rattle.pfr_feed.specs.Reading.{AllGave, BatchFails, BatchSays, GaveRecords, wants_memory}
+use Rattle.pfr_feed.specs.Stops.{stop_for}
+use Rattle.pfr_out.specs.Replay.{Failing, Holds, HoldsAllRead, HoldsAll, IsBoundary, IsJob, OfEvery, Replayed, StopFails, StopOf, Stopped, StopsUntold, closing, online, run_settings, run_with, whole}
 use Rattle.pfr_out.specs.Spelling.{Run}
 use Rattle.pfr_out.specs.Taking.{Add, ConcludeFails, Concludes, EndStops, IsLate, IsPastHeader, Reaches, SinksFail, Standing, TakenAll, run_in}
-use Rattle.pfr_out.proofs.ReadingLemmas.{gave_nothing, of_every}
+use Rattle.pfr_feed.proofs.ReadingLemmas.{gave_nothing}
+use Rattle.pfr_out.proofs.ReadingLemmas.{of_every}
 use Rattle.pfr_out.proofs.WritingLemmas.{grew_twice, headers_are_online, online_behind, whole_is}
 
 -- ---- worlds

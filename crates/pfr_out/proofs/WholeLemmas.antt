@@ -6,12 +6,12 @@ use Rattle.pfr_merge.specs.MergeReading.{AllTold, HasMerged, MayFollowAll, heade
 use Rattle.pfr_commit.specs.declared.book.Book.{Book}
 use Rattle.pfr_out.specs.declared.feeding.Cut.{Cut as Why}
 use Rattle.pfr_out.specs.declared.feeding.Feeding.{Feeding}
-use Rattle.pfr_out.specs.declared.report.Report.{Report}
-use Rattle.pfr_out.specs.declared.report.Stop.{Stop}
+use Rattle.pfr_feed.specs.declared.report.Report.{Report}
+use Rattle.pfr_feed.specs.declared.report.Stop.{Stop}
 use Rattle.pfr_out.specs.declared.sinks.Sinks.{Sinks}
 use Rattle.pfr_out.specs.Feedings.{Behind, Breaks, Concluded, Finishes, RunEnds, RunStops, stop_by, stop_of}
 use Rattle.pfr_out.specs.Outputs.{Grew, GrewBy, Outputs, each_of, headers_alone}
-use Rattle.pfr_out.specs.Captures.{End}
+use Rattle.pfr_feed.specs.Captures.{End}
 use Rattle.pfr_out.specs.Replay.{Replayed, Stopped, closing}
 use Rattle.pfr_out.specs.Spelling.{Run}
 use Rattle.pfr_out.specs.Taking.{IsPastHeader, Reaches, run_in}

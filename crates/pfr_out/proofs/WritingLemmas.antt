@@ -11,8 +11,8 @@ use Rattle.pfr_commit.specs.Emissions.{by_place}
 use Rattle.pfr_commit.specs.World.{Texts, World, joined, last_message, no_texts, origin_of}
 use Rattle.pfr_commit.specs.World.{online as written}
 use Rattle.pfr_commit.proofs.OnlineLemmas.{all_messages}
-use Rattle.pfr_out.specs.declared.report.Output.{Output}
-use Rattle.pfr_out.specs.declared.report.Output.TheVariants as output
+use Rattle.pfr_feed.specs.declared.report.Output.{Output}
+use Rattle.pfr_feed.specs.declared.report.Output.TheVariants as output
 use Rattle.pfr_out.specs.declared.settings.Form.{Form}
 use Rattle.pfr_out.specs.declared.settings.Form.TheVariants as shape
 use Rattle.pfr_out.specs.declared.sinks.Sinks.{Sinks}

@@ -10,14 +10,14 @@ use Rattle.pfr_feed.specs.Transitions.{Transitions}
 use Rattle.pfr_out.specs.declared.feeding.Cut.{Cut}
 use Rattle.pfr_out.specs.declared.feeding.Cut.TheVariants as cut
 use Rattle.pfr_out.specs.declared.feeding.Feeding.{Feeding}
-use Rattle.pfr_out.specs.declared.report.Report.{Report}
-use Rattle.pfr_out.specs.declared.report.Stop.{Stop}
-use Rattle.pfr_out.specs.declared.report.Stop.TheVariants as stop
+use Rattle.pfr_feed.specs.declared.report.Report.{Report}
+use Rattle.pfr_feed.specs.declared.report.Stop.{Stop}
+use Rattle.pfr_feed.specs.declared.report.Stop.TheVariants as stop
 use Rattle.pfr_out.specs.declared.settings.Form.{Form}
 use Rattle.pfr_out.specs.declared.sinks.Sinks.{Sinks}
 use Rattle.pfr_out.specs.Outputs.{Grew, GrewBy, KeepsMessages, OutputTexts, Outputs, Stay, TookPart, batch_alone, each_of, headers_alone}
-use Rattle.pfr_out.specs.Captures.{End}
-use Rattle.pfr_out.specs.Reading.{BatchFails, SaysIn, wants_memory}
+use Rattle.pfr_feed.specs.Captures.{End}
+use Rattle.pfr_feed.specs.Reading.{BatchFails, SaysIn, wants_memory}
 use Rattle.pfr_out.specs.Replay.{StopFails, Stopped}
 use Rattle.pfr_out.specs.Spelling.{spelled}
 use Rattle.pfr_out.specs.Taking.{ClosesIn, ConcludeFails, ConcludesIn, IsPastHeader, Reaches, SinksFail, run_in}

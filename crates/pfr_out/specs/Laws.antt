@@ -3,10 +3,10 @@ use Rattle.std.specs.Prelude.{ℕ, Bool, List, ◌≡◌, ◌⊎◌, Some, slice
 use Rattle.pfr_capture.specs.declared.capture.CaptureError.{CaptureError}
 use Rattle.pfr_capture.specs.Header.{opening_of}
 use Rattle.pfr_commit.specs.World.{Frame, world_of}
-use Rattle.pfr_out.specs.declared.report.Stop.{Stop}
-use Rattle.pfr_out.specs.declared.report.Stop.TheVariants.{Read}
+use Rattle.pfr_feed.specs.declared.report.Stop.{Stop}
+use Rattle.pfr_feed.specs.declared.report.Stop.TheVariants.{Read}
 use Rattle.pfr_out.specs.declared.sinks.Sinks.{Sinks}
-use Rattle.pfr_out.specs.Captures.{CapturesGive, End, headers_of}
+use Rattle.pfr_feed.specs.Captures.{CapturesGive, End, headers_of}
 use Rattle.pfr_out.specs.Outputs.{Outputs, Untouched}
 use Rattle.pfr_out.specs.Replay.{Begins, OfEvery, Stopped, committed_of, replay_of}
 use Rattle.pfr_out.specs.Spelling.{Run}

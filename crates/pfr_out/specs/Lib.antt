@@ -1,9 +1,7 @@
-pub mod Captures
 pub mod Feedings
 pub mod Laws
 pub mod Outputs
 pub mod PacketSinks
-pub mod Reading
 pub mod Replay
 pub mod Spelling
 pub mod Taking

@@ -6,8 +6,8 @@ use Rattle.pfr_commit.specs.declared.emitted.Emitted.{Emitted}
 use Rattle.pfr_commit.specs.declared.ending.Ending.{Ending}
 use Rattle.pfr_commit.specs.Emissions.{by_place, packets_of}
 use Rattle.pfr_commit.specs.World.{ByPlace, Texts, nowhere}
-use Rattle.pfr_out.specs.declared.report.Output.{Output}
-use Rattle.pfr_out.specs.declared.report.Output.TheVariants as output
+use Rattle.pfr_feed.specs.declared.report.Output.{Output}
+use Rattle.pfr_feed.specs.declared.report.Output.TheVariants as output
 use Rattle.pfr_out.specs.declared.settings.Form.{Form}
 use Rattle.pfr_out.specs.declared.settings.Form.TheVariants as form
 use Rattle.pfr_out.specs.declared.sinks.Sinks.{Sinks}

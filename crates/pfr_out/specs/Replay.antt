@@ -17,14 +17,14 @@ use Rattle.pfr_commit.specs.World.{online as written}
 use Rattle.pfr_merge.specs.MergeReading.{AllTold, joined}
 use Rattle.pfr_merge.specs.MergedCaptures.{AreOpened, MayContinue}
 use Rattle.pfr_merge.specs.Opening.{IsRefusedAt, IsShortAt, OneFailed}
-use Rattle.pfr_out.specs.declared.report.Output.{Output}
-use Rattle.pfr_out.specs.declared.report.Report.{Report}
-use Rattle.pfr_out.specs.declared.report.Stop.{Stop}
-use Rattle.pfr_out.specs.declared.report.Stop.TheVariants as stop
+use Rattle.pfr_feed.specs.declared.report.Output.{Output}
+use Rattle.pfr_feed.specs.declared.report.Report.{Report}
+use Rattle.pfr_feed.specs.declared.report.Stop.{Stop}
+use Rattle.pfr_feed.specs.declared.report.Stop.TheVariants as stop
 use Rattle.pfr_out.specs.declared.settings.RunSettings.{RunSettings}
 use Rattle.pfr_out.specs.declared.settings.Settings.{Settings}
 use Rattle.pfr_out.specs.declared.sinks.Sinks.{Sinks}
-use Rattle.pfr_out.specs.Captures.{CapturesGive, CapturesFail, BeginWith, End, headers_of}
+use Rattle.pfr_feed.specs.Captures.{CapturesGive, CapturesFail, BeginWith, End, headers_of}
 use Rattle.pfr_out.specs.Outputs.{Extends, Grew, OutputTexts, Outputs, PartWritten, RoseAt, Stay, Untouched, batch_alone, each_of, ending_alone, headers_alone, of_output, output_text, texts_alone}
 use Rattle.pfr_out.specs.Spelling.{Run, messages_text}
 
@@ -182,12 +182,6 @@ Stopped run batch texts lefts told old new (stop.Capture place e committed) = Re
 Stopped run batch texts lefts told old new (stop.Read place committed) = Unopened texts lefts told old new place committed ⊎ HoldsAllRead run texts lefts told old new place committed
 Stopped run batch texts lefts told old new (stop.Memory committed) = Wanting run batch texts lefts told old new committed
 Stopped run batch texts lefts told old new (stop.Write output committed) = Failing run batch texts lefts told old new output committed
-
--- the stop for a refusal of the capture at a place
-abbrev pub stop_for : ℕ × CaptureError → ℕ → Stop
-stop_for (place, capture.Read) committed = stop.Read place committed
-stop_for (place, capture.Memory) committed = stop.Memory committed
-stop_for (place, e) committed = stop.Capture place e committed
 
 -- how many packets a stop reports as committed
 abbrev pub committed_of : Stop → ℕ

@@ -8,16 +8,17 @@ use Rattle.pfr_commit.specs.Books.{StandsAt, job_of}
 use Rattle.pfr_commit.specs.World.{Frame, Texts, World, online, world_after, world_of}
 use Rattle.pfr_commit.specs.World.{joined as both}
 use Rattle.pfr_merge.specs.MergeReading.{AllTold, HasMerged, MayFollowAll, Waiting, joined}
-use Rattle.pfr_out.specs.declared.report.Report.{Report}
-use Rattle.pfr_out.specs.declared.report.Stop.{Stop}
-use Rattle.pfr_out.specs.declared.report.Stop.TheVariants as stop
+use Rattle.pfr_feed.specs.declared.report.Report.{Report}
+use Rattle.pfr_feed.specs.declared.report.Stop.{Stop}
+use Rattle.pfr_feed.specs.declared.report.Stop.TheVariants as stop
 use Rattle.pfr_out.specs.declared.sinks.Sinks.{Sinks}
 use Rattle.pfr_out.specs.declared.settings.Form.{Form}
 use Rattle.pfr_out.specs.declared.settings.RunSettings.{RunSettings}
-use Rattle.pfr_out.specs.Captures.{End}
+use Rattle.pfr_feed.specs.Captures.{End}
 use Rattle.pfr_out.specs.Spelling.{Run}
 use Rattle.pfr_out.specs.Outputs.{GrewBy, Outputs, PartWritten, RoseAt, each_of}
-use Rattle.pfr_out.specs.Replay.{HoldsAll, Replayed, Stopped, closing, stop_for}
+use Rattle.pfr_feed.specs.Stops.{stop_for}
+use Rattle.pfr_out.specs.Replay.{HoldsAll, Replayed, Stopped, closing}
 
 -- a run by a book's job
 abbrev pub run_in : Book → Form → Run

@@ -6,16 +6,14 @@ ghost use Rattle.pfr_commit.specs.Emissions.{texts_of};
 ghost use Rattle.pfr_merge.specs.MergeReading.{HasPassedOn, NoneRefused};
 ghost use Rattle.pfr_out.specs.Outputs.{KeepsMessages, Stay, each_of};
 ghost use Rattle.pfr_out.specs.Spelling.{source_of};
-ghost use Rattle.pfr_out.specs.declared.report.Stop.TheVariants.{Memory};
+ghost use Rattle.pfr_feed.specs.declared.report.Stop.TheVariants.{Memory};
 
 use crate::channel::Channel;
-use crate::reading::{give_back, wants_memory};
-use crate::report::{Output, Report, Stop};
 use crate::sinks::Sinks;
-use crate::sources::Sources;
 use crate::taking::conclude;
 use pfr_capture::{CaptureError, Record, Sink, Source, Tail};
 use pfr_commit::{Book, Emitted};
+use pfr_feed::{Output, Report, Sources, Stop, give_back, wants_memory};
 use pfr_headers::View;
 use pfr_merge::Merge;
 use pfr_net::Ipv4Address;

@@ -9,13 +9,11 @@ ghost use Rattle.pfr_out.specs.Taking.{IsLate, IsPastHeader, ReplaysOn, StopsOn}
 
 use crate::channel::{Channel, source_of};
 use crate::feeding::Feeding;
-use crate::report::{Report, Stop};
 use crate::settings::{RunSettings, Settings};
 use crate::sinks::Sinks;
-use crate::sources::Sources;
-use crate::taking::stop_for;
 use pfr_capture::{Sink, Source};
 use pfr_commit::Book;
+use pfr_feed::{Report, Sources, Stop, stop_for};
 use pfr_merge::Merge;
 use pfr_packet::Job;
 use pfr_work::{Gate, Histories};

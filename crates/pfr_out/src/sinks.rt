@@ -3,9 +3,9 @@ ghost use Rattle.std.specs.Prelude.{◌≡◌, ◌++◌, [], IsTrue, IfErr, OnEr
 ghost use Rattle.pfr_capture.specs.Device.{GrewByPart, Rose};
 
 use crate::packet_sinks::PacketSinks;
-use crate::report::Output;
 use pfr_capture::{Fault, Sink, write_all};
 use pfr_commit::{Emitted, Ending};
+use pfr_feed::Output;
 
 /// Where the outputs go.
 #[derive(Drop)]

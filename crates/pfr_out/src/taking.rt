@@ -1,14 +1,13 @@
 //! The end of a run.
 ghost use Rattle.std.specs.Prelude.{◌≡◌, IfErr, IfOk, OnOk, Ok};
 ghost use Rattle.pfr_out.specs.Outputs.{KeepsMessages, each_of};
-ghost use Rattle.pfr_out.specs.Replay.{stop_for};
 ghost use Rattle.pfr_out.specs.Taking.{ClosesIn, ConcludeFails, ConcludesIn, EndStopsIn, SinksFail};
 
 use crate::channel::{Channel, source_of};
-use crate::report::{Report, Stop};
 use crate::sinks::Sinks;
 use pfr_capture::{CaptureError, Sink, Tail};
 use pfr_commit::Book;
+use pfr_feed::{Report, Stop, stop_for};
 
 /// Writes the last texts of a run.
 pub(crate) fn close<S: Sink>(
@@ -38,18 +37,6 @@ pub(crate) fn close<S: Sink>(
     match sinks.write_ending(&ending, channel.text()) {
         Ok(()) => Ok(Report { committed, tail }),
         Err(output) => Err(Stop::Write(output, committed)),
-    }
-}
-
-/// The stop for the refusal of the capture at a place.
-pub fn stop_for(refusal: (usize, CaptureError), committed: u64) -> Stop
-    ensures { result ≡ stop_for refusal committed }
-{
-    let (place, refusal) = refusal;
-    match refusal {
-        CaptureError::Read => Stop::Read(place, committed),
-        CaptureError::Memory => Stop::Memory(committed),
-        refusal => Stop::Capture(place, refusal, committed),
     }
 }
 

@@ -4,10 +4,9 @@ ghost use Rattle.pfr_merge.specs.MergeReading.{HasPassedOn, NoneRefused};
 
 use crate::joining::{Met, Misfit, Run, join};
 use pfr_capture::{Form, Record, Source, Tail};
-use pfr_feed::viewed;
+use pfr_feed::{Sources, Stop, give_back, stop_for, viewed};
 use pfr_headers::View;
 use pfr_merge::Merge;
-use pfr_out::{Sources, Stop, give_back, stop_for};
 use pfr_packet::Outcome;
 use pfr_track::Clock;
 use std::alloc::{AllocError, Global};

@@ -1,7 +1,7 @@
 use Rattle.std.proofs.Common.{rules}
 use Rattle.std.proofs.lemmas.Result.{IfOk-weaker}
-use Rattle.pfr_out.specs.declared.report.Report.{Report}
-use Rattle.pfr_out.specs.declared.report.Stop.{Stop}
+use Rattle.pfr_feed.specs.declared.report.Report.{Report}
+use Rattle.pfr_feed.specs.declared.report.Stop.{Stop}
 use Rattle.pfr_out.specs.Replay.{IsJob}
 use Rattle.pfr_out.proofs.RunLemmas.{both_err, under_job}
 use Rattle.pfr_out.proofs.run.replay.Goals as goal

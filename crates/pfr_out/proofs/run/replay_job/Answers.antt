@@ -1,8 +1,8 @@
 use Rattle.std.proofs.Common.{map}
 use Rattle.std.proofs.lemmas.Result.{IfErr-weaker, IfOk-weaker}
 use Rattle.pfr_merge.specs.MergeReading.{AllTold}
-use Rattle.pfr_out.specs.declared.report.Report.{Report}
-use Rattle.pfr_out.specs.declared.report.Stop.{Stop}
+use Rattle.pfr_feed.specs.declared.report.Report.{Report}
+use Rattle.pfr_feed.specs.declared.report.Stop.{Stop}
 use Rattle.pfr_out.proofs.RunLemmas.{opening_fails, opening_untold, past_is_late, past_untold, refused_opening, stop_is_late}
 use Rattle.pfr_out.proofs.run.replay_job.Goals as goal
 

@@ -1,5 +1,5 @@
 use Rattle.std.proofs.Common.{◌∙◌, Option, IfSome, ap, map, refl, subst, sym}
-use Rattle.pfr_out.specs.declared.report.Stop.{Stop}
+use Rattle.pfr_feed.specs.declared.report.Stop.{Stop}
 use Rattle.pfr_commit.specs.Books.{job_of}
 use Rattle.pfr_published.specs.Ends.{is_shown, list_of}
 use Rattle.pfr_work.specs.Seen.{seen_of}

@@ -6,7 +6,7 @@ use Rattle.pfr_commit.specs.Emissions.{frame_of}
 use Rattle.pfr_merge.specs.Arrivals.{Arrived}
 use Rattle.pfr_merge.specs.MergeReading.{AllTold, AreOver, HasPassedOn, LacksRecordAt, MergesOn, NoneRefused, StopsAt, Waiting, header_in, joined, merged_tail}
 use Rattle.pfr_merge.specs.Opening.{ReadingFails}
-use Rattle.pfr_out.specs.Captures.{End, frame_in}
+use Rattle.pfr_feed.specs.Captures.{End, frame_in}
 
 -- a merge read on, and gave these records
 pub record GaveRecords (old new : List Waiting) (befores lefts : List (List ℕ)) (records : List Record) : Type 0 where

@@ -6,8 +6,8 @@ use Rattle.pfr_merge.proofs.CountLemmas.{passes_fewer}
 use Rattle.pfr_merge.proofs.ListLemmas.{reading_fails}
 use Rattle.pfr_merge.proofs.MergeReadingLemmas.{merges_none}
 use Rattle.pfr_merge.proofs.RefillAllLemmas.{all_refilled_none}
-use Rattle.pfr_out.proofs.ReadingLemmas.{batch_refused, gave_of, gives_no_more, gives_none, gives_one, gives_twice}
-use Rattle.pfr_out.proofs.reading.read_batch.Goals as goal
+use Rattle.pfr_feed.proofs.ReadingLemmas.{batch_refused, gave_of, gives_no_more, gives_none, gives_one, gives_twice}
+use Rattle.pfr_feed.proofs.reading.read_batch.Goals as goal
 
 pub loop-merge-init : goal.loop-merge-init
 loop-merge-init g c = rw c.begin_batch.ensures (record {

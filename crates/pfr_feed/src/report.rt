@@ -1,6 +1,9 @@
 //! How a run ends.
+ghost use Rattle.std.specs.Prelude.{◌≡◌};
+ghost use Rattle.pfr_feed.specs.Stops.{stop_for};
+
 use pfr_capture::{CaptureError, Tail};
-use pfr_conf::ConfError;
+use pfr_terms::ConfError;
 use thiserror::Error;
 
 /// A run that went to the end of its captures.
@@ -44,4 +47,16 @@ pub enum Stop {
     Write(Output, u64),
     #[error("no memory, committed {0}")]
     Memory(u64),
+}
+
+/// The stop for the refusal of the capture at a place.
+pub fn stop_for(refusal: (usize, CaptureError), committed: u64) -> Stop
+    ensures { result ≡ stop_for refusal committed }
+{
+    let (place, refusal) = refusal;
+    match refusal {
+        CaptureError::Read => Stop::Read(place, committed),
+        CaptureError::Memory => Stop::Memory(committed),
+        refusal => Stop::Capture(place, refusal, committed),
+    }
 }

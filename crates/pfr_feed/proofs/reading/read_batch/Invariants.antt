@@ -1,7 +1,7 @@
 use Rattle.std.proofs.Common.{◌≡◌, ◌≤◌, ◌+◌, ◌-◌, ℕ, length, map}
 use Rattle.pfr_merge.specs.MergeReading.{AllTold, HasPassedOn, NoneRefused, header_in}
-use Rattle.pfr_out.specs.Reading.{GaveRecords}
-use Rattle.pfr_out.proofs.reading.read_batch.Given as goal
+use Rattle.pfr_feed.specs.Reading.{GaveRecords}
+use Rattle.pfr_feed.proofs.reading.read_batch.Given as goal
 
 abbrev pub invariant-loop-merge : goal.invariant-loop-merge
 invariant-loop-merge g l = record {

@@ -3,7 +3,7 @@ ghost use Rattle.std.specs.Prelude.{◌≡◌, ◌≤◌, [], IfErr, IfOk, OnOk,
 ghost use Rattle.std.specs.List.{list_all};
 ghost use Rattle.pfr_merge.specs.MergeReading.{AllTold, HasPassedOn, NoneRefused};
 ghost use Rattle.pfr_merge.specs.Opening.{MergeOpens, OpeningFails, OpeningStops};
-ghost use Rattle.pfr_out.specs.Reading.{ReadsBatch};
+ghost use Rattle.pfr_feed.specs.Reading.{ReadsBatch};
 
 use crate::reading::read_batch;
 use pfr_capture::{CaptureError, Record, Source, Tail};
@@ -43,7 +43,7 @@ impl<R> Sources<R> {
 
 impl<R: Source> Sources<R> {
     /// Whether all tell their bytes.
-    pub(crate) fn tell(&self) -> bool
+    pub fn tell(&self) -> bool
         ensures { result ≡ list_all R.told self.now }
     {
         self.sources.iter().all(|source| source.tells())

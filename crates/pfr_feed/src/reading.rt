@@ -1,7 +1,7 @@
 //! Records from captures, a batch at a time.
 ghost use Rattle.std.specs.Prelude.{◌≡◌, ◌≤◌, [], length};
 ghost use Rattle.pfr_merge.specs.MergeReading.{NoneRefused};
-ghost use Rattle.pfr_out.specs.Reading.{ReadsBatch, wants_memory};
+ghost use Rattle.pfr_feed.specs.Reading.{ReadsBatch, wants_memory};
 
 use pfr_capture::{CaptureError, Record, Source, Tail};
 use pfr_headers::View;
@@ -45,7 +45,7 @@ pub(crate) fn read_batch<R: Source>(
 }
 
 /// Whether the reading ends because memory was refused.
-pub(crate) fn wants_memory(end: &Option<Result<Tail, (usize, CaptureError)>>) -> bool
+pub fn wants_memory(end: &Option<Result<Tail, (usize, CaptureError)>>) -> bool
     ensures { result ≡ wants_memory end.now }
 {
     match end {
