@@ -1,20 +1,18 @@
 //! What `pfreplay run` does.
 ghost use Rattle.std.specs.Prelude.{IfOk};
-ghost use Rattle.pfr_views.specs.Jobs as spec;
+ghost use Rattle.pfr_files.specs.Jobs as spec;
 
-use crate::destination::Destination;
-use crate::peer::{Connection, connected};
-use crate::same_file::repeated_output;
 use pfr_capture::{Tail, WriterSink};
-use pfr_command::{CaptureWords, Messages, RunWords, names_of};
-use pfr_out::{Form, Gate, PacketSinks, Report, RunSettings, Sinks, Stop, replay_job};
+use pfr_command::{Messages, RunWords, inputs_of, outputs_of};
+use pfr_files::{
+    CUT, Connection, DONE, Destination, Failure, Place, STANDARD, begin_progress, connected, created,
+    has_standard, is_standard, job_by, repeated_output, repeats_input, sources,
+};
+use pfr_out::{Form, Gate, PacketSinks, Report, RunSettings, Sinks, replay_job};
 use pfr_packet::Job;
 use pfr_prepare::prepared_text;
 use pfr_progress::{Meter, Two};
-use pfr_views::{
-    CUT, DONE, Failure, STANDARD, begin_progress, created, has_standard, is_standard, job_by,
-    repeats_input, sources,
-};
+use pfr_values::CaptureWords;
 use pfr_warnings::{Warning, Watch, warn};
 use std::alloc::{AllocError, AllocGlobal};
 use std::io::{ErrorKind, Read, Write};
@@ -50,7 +48,7 @@ pub fn replay<
         Ok(status) => Ok(status),
         Err(failure) => {
             if asked.warns {
-                warn_of(rt, &failure, asked.captures.as_slice(), err);
+                warn_of(rt, failure, asked.captures.as_slice(), err);
             }
             Err(failure)
         }
@@ -60,16 +58,13 @@ pub fn replay<
 /// Warns of what stands behind a failure, if the system says more of it.
 fn warn_of<'a, R: Files, E: Write>(
     rt: &R,
-    failure: &Failure<'a>,
+    failure: Failure<'a>,
     captures: &[CaptureWords<'a>],
     err: &mut E,
 ) {
-    match failure {
-        Failure::CannotOpen { name, reason } => warn(&Warning::NotOpened(name, *reason), err),
-        Failure::Stopped {
-            stop: Stop::Read(place, _),
-            ..
-        } => warn_of_folder(rt, captures.get(*place), err),
+    match failure.place {
+        Place::Unopened(name, reason) => warn(&Warning::NotOpened(name, reason), err),
+        Place::Unread(place, _, _) => warn_of_folder(rt, captures.get(place), err),
         _ => {}
     }
 }
@@ -103,12 +98,12 @@ fn replay_words<
     err: &mut E,
     meter: &M,
 ) -> Result<u8, Failure<'a>> {
-    let outputs = names_of(rt.alloc(), asked)?;
+    let outputs = outputs_of(rt.alloc(), asked)?;
     if repeats_input(asked.captures.as_slice()) {
-        return Err(Failure::SameFile(STANDARD));
+        return Err(Failure::same_file(STANDARD));
     }
-    if let Some(name) = repeated_output(rt, asked, outputs.as_slice())? {
-        return Err(Failure::SameFile(name));
+    if let Some(name) = repeated(rt, asked, outputs.as_slice())? {
+        return Err(Failure::same_file(name));
     }
     // A fault of the ruleset is reported before any other file is touched.
     let job = job_of(rt, asked, err)?;
@@ -117,6 +112,16 @@ fn replay_words<
         return finish(&report, err);
     }
     finish(&report, out)
+}
+
+/// The name of the first of these outputs that is another file of the run.
+fn repeated<'a, R: Files + AllocGlobal>(
+    rt: &R,
+    asked: &RunWords<'_>,
+    outputs: &[&'a str],
+) -> Result<Option<&'a str>, AllocError> {
+    let inputs = inputs_of(rt.alloc(), &asked.rules)?;
+    repeated_output(rt, asked.captures.as_slice(), inputs.as_slice(), outputs)
 }
 
 /// Replays captures by a job, writes the outputs, and prints what there is to warn of.
@@ -142,7 +147,7 @@ fn watched<
         first: &watch,
         second: meter,
     };
-    let ended = replayed(rt, asked, job, input, out, &both);
+    let ended = replayed(rt, asked, job, input, out, err, &both);
     meter.end();
     let report = ended?;
     watch.warn(report.committed, err);
@@ -155,6 +160,7 @@ fn replayed<
     R: Files + Net + AllocGlobal + Threads + Wait + Sync,
     I: Read + Drop,
     O: Write + Copy,
+    E: Write,
     G: Gate,
 >(
     rt: &R,
@@ -162,6 +168,7 @@ fn replayed<
     job: Job,
     input: I,
     out: O,
+    err: &mut E,
     gate: &G,
 ) -> Result<Report, Failure<'a>> {
     let captures = asked.captures.as_slice();
@@ -175,7 +182,7 @@ fn replayed<
     };
     match replay_job(rt, &mut sources, job, settings, &mut sinks, gate) {
         Ok(report) => Ok(report),
-        Err(stop) => Err(Failure::of_run(stop, asked.captures.as_slice())),
+        Err(stop) => Err(Failure::of_run(&stop, asked.captures.as_slice(), err)),
     }
 }
 
@@ -188,7 +195,7 @@ fn job_of<'a, R: Files + AllocGlobal, E: Write>(
     ensures { IfOk result (spec.IsAsked asked.now.rules asked.now.ways asked.now.seed) }
 {
     let text = prepared_text(rt, &asked.rules, err)?;
-    job_by(rt.alloc(), &asked.rules, &text, &asked.ways, asked.seed)
+    job_by(rt.alloc(), &asked.rules, &text, &asked.ways, asked.seed, None, err)
 }
 
 /// The form in which messages are written.
@@ -267,6 +274,6 @@ fn finish<'a, O: Write>(report: &Report, out: &mut O) -> Result<u8, Failure<'a>>
     };
     match writeln!(out, "committed {committed}{end}") {
         Ok(()) => Ok(status),
-        Err(_) => Err(Failure::PrintFailed),
+        Err(_) => Err(Failure::of_printing()),
     }
 }

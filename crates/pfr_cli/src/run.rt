@@ -2,23 +2,20 @@
 use crate::replaying::replay;
 use crate::standby::stand_by;
 use crate::summary::Summary;
-use pfr_command::{Asked, parse};
-use pfr_out::{StandbyStop, Stop};
-use pfr_prepare::{Prepared, Refusal, Request, prepared_text, say_faults};
-use pfr_progress::Meter;
-use pfr_views::{
-    DONE, Failure, REFUSED, TROUBLE, list_states, print, report, report_on, show_packets,
-    tell_changes, tell_rules,
+use pfr_command::{Asked, CommandName, command_of, parse};
+use pfr_files::{
+    Counted, DONE, Failure, NO_MEMORY, Place, REFUSED, TROUBLE, print, report, text_refused,
 };
-use std::alloc::Global;
+use pfr_prepare::{Prepared, Request, prepared_text, say_faults};
+use pfr_progress::Meter;
+use pfr_values::Refused;
+use pfr_views::{list_states, report_on, show_packets, tell_changes, tell_rules};
+use std::alloc::{AllocError, Global};
 use std::io::{Read, Write};
 use std::net::Net;
 use std::rt::Files;
 use std::sync::Wait;
 use std::thread::Threads;
-
-/// The commands that show something.
-const SHOWING: [&str; 5] = ["states", "rules", "diff", "show", "report"];
 
 /// Does what the words ask, the program's name first among them, and answers the status to end with. What
 /// is wrong goes to `err`, in one line. The meter says how far a command has come, if the words ask for that.
@@ -29,42 +26,53 @@ pub fn run<
     E: Write,
     M: Meter,
 >(rt: &R, words: &[String], input: I, out: &mut O, err: &mut E, meter: &M) -> u8 {
-    match work(rt, words, input, out, err, meter) {
-        Ok(status) => status,
-        Err(failure) => {
-            let status = report(&by_command(failure, words), err);
-            if status == REFUSED && ask_for(words, "diff") {
-                TROUBLE
-            } else {
-                status
-            }
+    match parse(rt.alloc(), words) {
+        Ok(asked) => match work(rt, &asked, input, out, err, meter) {
+            Ok(status) => status,
+            Err(failure) => fail(failure, words, err),
+        },
+        Err(refused) => refuse(refused, words, err),
+    }
+}
+
+/// Says that words were refused, and answers the status to end with.
+pub fn refuse<E: Write>(refused: Refused<'_>, words: &[String], err: &mut E) -> u8 {
+    match refused {
+        Refused::Memory => fail(Failure::from(AllocError), words, err),
+        _ => {
+            // If this can't be written either, the status alone says it.
+            let _ = writeln!(err, "pfreplay: {refused}");
+            fail(Failure::said(REFUSED), words, err)
         }
     }
 }
 
-/// What is said of memory that is refused depends on the command that the words ask for, the program's name first: `standby` counts
-/// messages and no packets, and the commands that show something neither.
-fn by_command<'a>(failure: Failure<'a>, words: &[String]) -> Failure<'a> {
-    if SHOWING.iter().any(|command| ask_for(words, command)) {
-        return failure.without_packets();
-    }
-    match failure {
-        Failure::Stopped {
-            stop: Stop::Memory(_),
-            ..
-        } if ask_for(words, "standby") => Failure::StandbyStopped(StandbyStop::Memory(0)),
-        other => other,
+/// Says what is wrong as the command says it that these words ask for, and answers the status to end with.
+fn fail<E: Write>(failure: Failure<'_>, words: &[String], err: &mut E) -> u8 {
+    let command = command_of(words);
+    let status = report(failure.counting(counted_by(command)), err);
+    match command {
+        Some(CommandName::Diff) if status == REFUSED => TROUBLE,
+        _ => status,
     }
 }
 
-/// Whether the words ask for this command.
-fn ask_for(words: &[String], command: &str) -> bool {
-    match words.get(1) {
-        Some(word) => word.as_str() == command,
-        None => false,
+/// What a command counts, and says if memory is refused.
+fn counted_by(command: Option<CommandName>) -> Counted {
+    match command {
+        None | Some(CommandName::Run) | Some(CommandName::Check) | Some(CommandName::Adapt) => {
+            Counted::Packets
+        }
+        Some(CommandName::Standby) => Counted::Messages,
+        Some(CommandName::States)
+        | Some(CommandName::Rules)
+        | Some(CommandName::Diff)
+        | Some(CommandName::Show)
+        | Some(CommandName::Report) => Counted::Nothing,
     }
 }
 
+/// Does what is asked, and answers the status.
 fn work<
     'a,
     R: Files + Net + AllocGlobal + Threads + Wait + Sync,
@@ -74,24 +82,32 @@ fn work<
     M: Meter,
 >(
     rt: &R,
-    words: &'a [String],
+    asked: &Asked<'a>,
     input: I,
     out: &mut O,
     err: &mut E,
     meter: &M,
 ) -> Result<u8, Failure<'a>> {
-    match parse(rt.alloc(), words)? {
+    match asked {
         Asked::Text(text) => print(out, text.as_bytes()),
-        Asked::Check(rules) => check(rt, &rules, out, err),
-        Asked::Adapt(rules) => adapt(rt, &rules, out, err),
-        Asked::Run(asked) => replay(rt, &asked, input, out, err, meter),
-        Asked::Standby(stream) => stand_by(rt, &stream, input, out),
-        Asked::States(asked) => list_states(rt, &asked, input, out),
-        Asked::Rules(asked) => tell_rules(rt, &asked, out, err),
-        Asked::Diff(asked) => tell_changes(rt, &asked, input, out, err, meter),
-        Asked::Show(asked) => show_packets(rt, &asked, input, out, err),
-        Asked::Report(asked) => report_on(rt, &asked, input, out, err, meter),
+        Asked::Usage(text) => Err(misused(text.as_str(), err)),
+        Asked::Check(rules) => check(rt, rules, out, err),
+        Asked::Adapt(rules) => adapt(rt, rules, out, err),
+        Asked::Run(asked) => replay(rt, asked, input, out, err, meter),
+        Asked::Standby(stream) => stand_by(rt, stream, input, out),
+        Asked::States(asked) => list_states(rt, asked, input, out),
+        Asked::Rules(asked) => tell_rules(rt, asked, out, err),
+        Asked::Diff(asked) => tell_changes(rt, asked, input, out, err, meter),
+        Asked::Show(asked) => show_packets(rt, asked, input, out, err),
+        Asked::Report(asked) => report_on(rt, asked, input, out, err, meter),
     }
+}
+
+/// Says that the words don't fit, as this text does.
+fn misused<'a, E: Write>(text: &str, err: &mut E) -> Failure<'a> {
+    // If this can't be written either, the status alone says it.
+    let _ = writeln!(err, "pfreplay: {text}");
+    Failure::said(REFUSED)
 }
 
 /// Prints what a ruleset makes for an interface.
@@ -105,7 +121,7 @@ fn check<'a, R: Files + AllocGlobal, O: Write, E: Write>(
     let interfaces = rules.interfaces.as_slice();
     match Summary::of(rt.alloc(), text.text.as_slice(), interfaces) {
         Ok(summary) => print_summary(rt.alloc(), summary, out),
-        Err(error) => Err(Failure::from(error).in_file(&text)),
+        Err(fault) => Err(text_refused(None, &text, &fault, err)),
     }
 }
 
@@ -129,22 +145,20 @@ fn adapt<'a, R: Files + AllocGlobal, O: Write, E: Write>(
 ) -> Result<u8, Failure<'a>> {
     let text = prepared_text(rt, rules, err)?;
     let status = faults(rt.alloc(), rules, &text, err)?;
-    match out.write_all(text.text.as_slice()) {
-        Ok(()) => Ok(status),
-        Err(_) => Err(Failure::PrintFailed),
-    }
+    print(out, text.text.as_slice())?;
+    Ok(status)
 }
 
 /// Says all that is refused of a text, and answers the status.
 fn faults<'a, E: Write>(
     alloc: Global,
-    rules: &Request<'a>,
+    rules: &Request<'_>,
     text: &Prepared,
     err: &mut E,
 ) -> Result<u8, Failure<'a>> {
     match say_faults(alloc, rules, text, err) {
         Ok(true) => Ok(REFUSED),
         Ok(false) => Ok(DONE),
-        Err(_) => Err(Failure::from(Refusal::Memory)),
+        Err(_) => Err(Failure::new(NO_MEMORY, Place::Whole, "rules line 0: no memory")),
     }
 }

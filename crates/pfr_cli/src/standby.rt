@@ -1,9 +1,9 @@
 //! What `pfreplay standby` does.
-use crate::peer::accepted;
 use pfr_capture::{ReaderSource, Source, WriterSink};
 use pfr_command::Stream;
-use pfr_out::{Framing, standby};
-use pfr_views::{DONE, Failure, origin_of};
+use pfr_files::{DEVICE, DONE, Failure, NO_MEMORY, Place, REFUSED, accepted, origin_of};
+use pfr_out::{Framing, StandbyStop, standby};
+use pfr_sync::SyncError;
 use std::alloc::Global;
 use std::io::{Read, Write};
 use std::net::Net;
@@ -38,6 +38,40 @@ fn print_states<'a, S: Source, O: Write>(
     let mut sink = WriterSink::new(out);
     match standby(alloc, source, framing, &mut sink) {
         Ok(_taken) => Ok(DONE),
-        Err(stop) => Err(Failure::StandbyStopped(stop)),
+        Err(stop) => Err(failure_of(stop)),
+    }
+}
+
+/// What is said if a standby hasn't taken all messages.
+fn failure_of<'a>(stop: StandbyStop) -> Failure<'a> {
+    match stop {
+        StandbyStop::Message(number, refusal) => {
+            Failure::new(REFUSED, Place::Message(number, code_of(refusal)), "")
+        }
+        StandbyStop::Read(taken) => {
+            Failure::new(DEVICE, Place::Messages(taken), "read failed")
+        }
+        StandbyStop::Write(taken) => {
+            Failure::new(DEVICE, Place::Messages(taken), "write failed")
+        }
+        StandbyStop::Memory(taken) => {
+            Failure::new(NO_MEMORY, Place::Messages(taken), "no memory")
+        }
+    }
+}
+
+/// The number by which the program names why a message is refused.
+fn code_of(refusal: SyncError) -> u8 {
+    match refusal {
+        SyncError::Short => 1,
+        SyncError::Version => 2,
+        SyncError::Length => 3,
+        SyncError::Action(_) => 4,
+        SyncError::Count => 5,
+        SyncError::NoEnd => 6,
+        SyncError::Trailing => 7,
+        SyncError::UnknownState => 8,
+        SyncError::Memory => 9,
+        SyncError::Fixed(_) => 10,
     }
 }

@@ -1,7 +1,7 @@
 -- The files that a run writes.
 use Rattle.std.specs.Prelude.{ℕ, List, [], ◌∷◌, ◌++◌, map}
 use Rattle.std.specs.Borrow.{Bor}
-use Rattle.pfr_command.specs.declared.also.CaptureWords.{CaptureWords}
+use Rattle.pfr_values.specs.declared.also.CaptureWords.{CaptureWords}
 use Rattle.pfr_command.specs.declared.run.OutputNames.{OutputNames}
 use Rattle.pfr_command.specs.declared.run.Messages.{Messages}
 use Rattle.pfr_command.specs.declared.run.Messages.TheVariants.{File, Peer, Nowhere}

@@ -1,9 +1,9 @@
 //! The flags that say what the text of a ruleset can't.
-use crate::refused::Refused;
 use crate::table::{Beside, Given, Word};
 use clap::ArgMatches;
 use pfr_items::Items;
 use pfr_prepare::{Flag, FlagKind};
+use pfr_values::Refused;
 use std::alloc::Global;
 
 /// A flag that may be given as often as needed.

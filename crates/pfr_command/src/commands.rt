@@ -1,19 +1,20 @@
 //! The commands of the program, with their words, flags and help.
-use crate::also::{ALSO_COMPARED, ALSO_NAMED, ALSO_REPLAYED};
 use crate::help::{
     ADAPT_EXAMPLE, CHECK_EXAMPLE, DIFF_EXAMPLE, MORE_OF_ADAPT, MORE_OF_DIFF, MORE_OF_PROGRAM,
     MORE_OF_REPORT, MORE_OF_RULES, MORE_OF_RUN, MORE_OF_SHOW, MORE_OF_STANDBY, MORE_OF_STATES,
     REPORT_EXAMPLE, RULES_EXAMPLE, RUN_EXAMPLE, SHOW_EXAMPLE, STANDBY_EXAMPLE, STATES_EXAMPLE,
     VERSIONS,
 };
-use crate::mac::MAC;
-use crate::table::{Beside, Given, Part, Said, Word, command};
-use crate::values::{
-    ADDRESS, BATCH, FILE, FORMAT, HOST, INSIDE, INTERFACE, NUMBER, PEER, SEED, TAP, VERDICTS,
-    WORKERS,
-};
+use crate::show::{FORMAT, HOST, NUMBER, VERDICTS};
+use crate::table::{Beside, CommandName, Given, Part, Said, Word, command};
 use clap::Command;
+use pfr_values::{
+    ADDRESS, BATCH, COMPARED, INSIDE, INTERFACE, MAC, NAMED, PEER, REPLAYED, SEED, TAP, WORKERS,
+};
 use std::alloc::{AllocError, Global};
+
+/// The form of the value behind the flags that name a file.
+const FILE: &str = "FILE";
 
 const CAPTURE: Word = Word {
     name: "CAPTURE",
@@ -45,6 +46,34 @@ const INTERFACE_WORDS: [Word; 2] = [
     },
 ];
 
+/// What the help says of `--also` if its value names a capture.
+const ALSO_WITH_CAPTURE: &str =
+    "Another interface with its capture, seven times at most; no name holds a comma";
+
+/// Another interface of a command that replays captures.
+const ALSO_REPLAYED: Word = Word {
+    name: "also",
+    given: Given::Repeated(REPLAYED),
+    beside: Beside::Any,
+    help: ALSO_WITH_CAPTURE,
+};
+
+/// Another interface of a command that reads captures.
+const ALSO_COMPARED: Word = Word {
+    name: "also",
+    given: Given::Repeated(COMPARED),
+    beside: Beside::Any,
+    help: ALSO_WITH_CAPTURE,
+};
+
+/// Another interface of a command that reads a ruleset alone.
+const ALSO_NAMED: Word = Word {
+    name: "also",
+    given: Given::Repeated(NAMED),
+    beside: Beside::Any,
+    help: "Another interface, seven times at most; no name holds a comma",
+};
+
 const ADAPT: Word = Word {
     name: "adapt",
     given: Given::Switch,
@@ -63,7 +92,12 @@ const WAYS: [Word; 3] = [
         beside: Beside::Unless("mac"),
         help: "The networks whose packets go out, A.B.C.D/BITS or A.B.C.D, separated by commas; packets of those with ! come in",
     },
-    MAC,
+    Word {
+        name: "mac",
+        given: Given::Repeated(MAC),
+        beside: Beside::Any,
+        help: "An interface's Ethernet address; of its capture the frames that it sent go out, all others come in",
+    },
     Word {
         name: "tap",
         given: Given::Optional(TAP),
@@ -154,6 +188,7 @@ const PROGRESS: Word = Word {
 };
 
 const RUN_COMMAND: Said = Said {
+    command: CommandName::Run,
     name: "run",
     about: "Replays a packet capture through a ruleset",
     example: RUN_EXAMPLE,
@@ -173,6 +208,7 @@ const RUN_COMMAND: Said = Said {
 };
 
 const CHECK_COMMAND: Said = Said {
+    command: CommandName::Check,
     name: "check",
     about: "Reads a ruleset and prints how many rules it makes, and its checksum",
     example: CHECK_EXAMPLE,
@@ -186,6 +222,7 @@ const CHECK_COMMAND: Said = Said {
 };
 
 const ADAPT_COMMAND: Said = Said {
+    command: CommandName::Adapt,
     name: "adapt",
     about: "Rewrites a ruleset in the words that the other commands read",
     example: ADAPT_EXAMPLE,
@@ -199,6 +236,7 @@ const ADAPT_COMMAND: Said = Said {
 };
 
 const STANDBY_COMMAND: Said = Said {
+    command: CommandName::Standby,
     name: "standby",
     about: "Reads what a run tells a standby, and prints the states that it holds then",
     example: STANDBY_EXAMPLE,
@@ -220,6 +258,7 @@ const STANDBY_COMMAND: Said = Said {
 };
 
 const STATES_COMMAND: Said = Said {
+    command: CommandName::States,
     name: "states",
     about: "Lists the states that a run left, as pfctl does",
     example: STATES_EXAMPLE,
@@ -241,6 +280,7 @@ const STATES_COMMAND: Said = Said {
 };
 
 const RULES_COMMAND: Said = Said {
+    command: CommandName::Rules,
     name: "rules",
     about: "Prints each rule that a ruleset makes, with its number and its line",
     example: RULES_EXAMPLE,
@@ -260,6 +300,7 @@ const RULES_COMMAND: Said = Said {
 };
 
 const DIFF_COMMAND: Said = Said {
+    command: CommandName::Diff,
     name: "diff",
     about: "Says for which packets of a capture another ruleset comes to something else",
     example: DIFF_EXAMPLE,
@@ -353,6 +394,7 @@ const SELECTION: [Word; 7] = [
 ];
 
 const SHOW_COMMAND: Said = Said {
+    command: CommandName::Show,
     name: "show",
     about: "Shows packets of a capture, each with the rule that decided",
     example: SHOW_EXAMPLE,
@@ -367,6 +409,7 @@ const SHOW_COMMAND: Said = Said {
 };
 
 const REPORT_COMMAND: Said = Said {
+    command: CommandName::Report,
     name: "report",
     about: "Prints a page of HTML about what a run made of a capture",
     example: REPORT_EXAMPLE,
@@ -400,6 +443,24 @@ const COMMANDS: [Said; 9] = [
     SHOW_COMMAND,
     REPORT_COMMAND,
 ];
+
+/// The command of this name.
+pub(crate) fn command_named(name: &str) -> Option<CommandName> {
+    for said in &COMMANDS {
+        if said.name == name {
+            return Some(said.command);
+        }
+    }
+    None
+}
+
+/// The command that words ask for, the program's name first.
+pub fn command_of(words: &[String]) -> Option<CommandName> {
+    match words.get(1) {
+        Some(word) => command_named(word.as_str()),
+        None => None,
+    }
+}
 
 /// The commands.
 fn commands<'a>(alloc: Global) -> Result<Vec<Command<'a>>, AllocError> {

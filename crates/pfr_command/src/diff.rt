@@ -1,16 +1,14 @@
 //! What the words behind `diff` say.
 ghost use Rattle.std.specs.Prelude.{◌≡◌, length};
 ghost use Rattle.std.proofs.Props.{props};
-ghost use Rattle.pfr_command.specs.Places.{ArePlaces};
+ghost use Rattle.pfr_values.specs.Places.{ArePlaces};
 
-use crate::also::CaptureWords;
 use crate::given::{given_captures, given_rules, given_seed};
-use crate::refused::Refused;
-use crate::ways::{Ways, given_ways};
 use crate::words::Asked;
 use clap::ArgMatches;
 use pfr_items::Items;
 use pfr_prepare::Request;
+use pfr_values::{CaptureWords, Refused, Ways, given_ways};
 use std::alloc::Global;
 
 /// What the words behind `diff` say: which captures are replayed through which two rulesets, and how.

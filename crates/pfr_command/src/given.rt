@@ -1,15 +1,13 @@
 //! What words say that several commands have.
 ghost use Rattle.std.specs.Prelude.{◌≡◌, IfOk};
-ghost use Rattle.pfr_command.specs.Places.{ArePlaces};
+ghost use Rattle.pfr_values.specs.Places.{ArePlaces};
 
-use crate::also::{AlsoForm, CaptureWords, Places, places_of};
 use crate::around::given_flags;
-use crate::refused::Refused;
-use crate::values::{interface, seed};
 use clap::ArgMatches;
 use pfr_items::Items;
 use pfr_prepare::Request;
 use pfr_ruleset::Interface;
+use pfr_values::{AlsoForm, CaptureWords, Places, Refused, interface, places_of, seed};
 use std::alloc::Global;
 
 /// The word for this place or flag, which the command needs.

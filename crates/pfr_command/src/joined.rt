@@ -1,13 +1,12 @@
 //! The captures and the lines of verdicts that words join.
 ghost use Rattle.std.proofs.Props.{props};
-ghost use Rattle.pfr_command.specs.Places.{ArePlaces};
+ghost use Rattle.pfr_values.specs.Places.{ArePlaces};
 
-use crate::also::CaptureWords;
 use crate::given::{given, given_captures, given_rules};
-use crate::refused::Refused;
 use clap::ArgMatches;
 use pfr_items::Items;
 use pfr_prepare::Request;
+use pfr_values::{CaptureWords, Refused};
 use std::alloc::Global;
 
 /// Captures, and what a run wrote of their packets.

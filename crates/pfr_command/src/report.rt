@@ -1,8 +1,8 @@
 //! What the words behind `report` say.
 use crate::joined::{JoinedWords, joined_words};
-use crate::refused::Refused;
 use crate::words::Asked;
 use clap::ArgMatches;
+use pfr_values::Refused;
 use std::alloc::Global;
 
 /// What the words behind `report` say.

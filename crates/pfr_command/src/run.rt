@@ -1,18 +1,16 @@
 //! What the words behind `run` say.
 ghost use Rattle.std.specs.Prelude.{◌≡◌, ◌≤◌, IfOk, length};
 ghost use Rattle.std.proofs.Props.{props};
-ghost use Rattle.pfr_command.specs.Places.{ArePlaces};
+ghost use Rattle.pfr_values.specs.Places.{ArePlaces};
 
-use crate::also::{AlsoForm, CaptureWords, Places, places_of};
 use crate::given::{given, given_rules, given_seed};
-use crate::peer::Peer;
-use crate::refused::Refused;
-use crate::values::{batch, interface, peer, workers};
-use crate::ways::{Ways, given_ways};
 use crate::words::Asked;
 use clap::ArgMatches;
 use pfr_items::Items;
 use pfr_prepare::Request;
+use pfr_values::{
+    AlsoForm, CaptureWords, Peer, Places, Refused, Ways, batch, given_ways, interface, peer, places_of, workers,
+};
 use std::alloc::Global;
 
 /// What the words behind `run` say: which captures are replayed through which ruleset, and how.

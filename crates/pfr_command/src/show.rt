@@ -6,58 +6,29 @@ ghost use Rattle.pfr_net.specs.Networks.{net_of};
 ghost use Rattle.pfr_net.specs.Notation.{number};
 ghost use Rattle.pfr_command.specs.Shows as spec;
 
-use crate::inside::parts_of;
 use crate::joined::{JoinedWords, joined_words};
-use crate::refused::Refused;
-use crate::values::{FORMAT, HOST, NUMBER, VERDICTS};
 use crate::words::Asked;
 use clap::ArgMatches;
 use pfr_net::{Net, notation};
+use pfr_show::{Form, Selection, Verdicts};
+use pfr_values::{Refused, parts_of};
 use std::alloc::Global;
+
+/// The form of the value behind `--only`.
+pub(crate) const VERDICTS: &str = "VERDICTS";
+/// The form of the value behind `--rule` and `--line`.
+pub(crate) const NUMBER: &str = "N";
+/// The form of the value behind `--host`.
+pub(crate) const HOST: &str = "A.B.C.D[/BITS]";
+/// The form of the value behind `--format`.
+pub(crate) const FORMAT: &str = "text|json|pflog";
 
 /// What the words behind `show` say: which packets are shown, and how.
 #[derive(Drop)]
 pub struct ShowWords<'a> {
     pub joined: JoinedWords<'a>,
-    pub selection: SelectionWords,
-    pub form: ShowForm,
-}
-
-/// Which packets are shown: those for which all holds that is asked.
-#[derive(Clone, Copy)]
-pub struct SelectionWords {
-    /// Those with one of these verdicts.
-    pub only: Option<Only>,
-    /// Those that the filter rule with this number decides.
-    pub rule: Option<u64>,
-    /// Those that a rule on this line decides or translates.
-    pub line: Option<u64>,
-    /// Those from or to an address of this network.
-    pub host: Option<Net>,
-    /// Those that pf would log.
-    pub logged: bool,
-}
-
-/// Verdicts.
-#[derive(Clone, Copy)]
-pub struct Only {
-    pub pass: bool,
-    pub block: bool,
-    pub returned: bool,
-    pub skip: bool,
-}
-
-/// How packets are shown.
-#[derive(Clone, Copy, PartialEq, Eq)]
-pub enum ShowForm {
-    /// A line for each.
-    Text,
-    /// An object of JSON for each, on a line of its own.
-    Json,
-    /// A capture as pflog(4) writes it.
-    Pflog,
-    /// How many there are.
-    Count,
+    pub selection: Selection,
+    pub form: Form,
 }
 
 /// Whether one of some words is this one.
@@ -92,7 +63,7 @@ fn are_verdicts(words: &[&str]) -> bool
 }
 
 /// The verdicts that a word lists, separated by commas.
-fn verdicts_in<'a>(alloc: Global, word: &'a str) -> Result<Only, Refused<'a>>
+fn verdicts_in<'a>(alloc: Global, word: &'a str) -> Result<Verdicts, Refused<'a>>
     ensures { IfOk result (spec.Lists (slice_split (λ b. b == 44) word.entry.now)) }
 {
     let parts = parts_of(alloc, word)?;
@@ -104,7 +75,7 @@ fn verdicts_in<'a>(alloc: Global, word: &'a str) -> Result<Only, Refused<'a>>
             word,
         });
     }
-    Ok(Only {
+    Ok(Verdicts {
         pass: has(parts, "pass"),
         block: has(parts, "block"),
         returned: has(parts, "return"),
@@ -135,13 +106,13 @@ fn host<'a>(word: &'a str) -> Result<Net, Refused<'a>>
 }
 
 /// The form for a word.
-fn form<'a>(word: &'a str) -> Result<ShowForm, Refused<'a>>
+fn form<'a>(word: &'a str) -> Result<Form, Refused<'a>>
     ensures { result_ok result ≡ spec.form_of word.entry.now }
 {
     match word {
-        "text" => Ok(ShowForm::Text),
-        "json" => Ok(ShowForm::Json),
-        "pflog" => Ok(ShowForm::Pflog),
+        "text" => Ok(Form::Text),
+        "json" => Ok(Form::Json),
+        "pflog" => Ok(Form::Pflog),
         _ => Err(Refused::BadValue {
             flag: "--format",
             form: FORMAT,
@@ -168,8 +139,8 @@ pub(crate) fn show_words<'a>(
 fn given_selection<'a>(
     alloc: Global,
     matches: &ArgMatches<'a>,
-) -> Result<SelectionWords, Refused<'a>> {
-    let only = match matches.get_str("only") {
+) -> Result<Selection, Refused<'a>> {
+    let verdicts = match matches.get_str("only") {
         Some(word) => Some(verdicts_in(alloc, word)?),
         None => None,
     };
@@ -177,8 +148,8 @@ fn given_selection<'a>(
         Some(word) => Some(host(word)?),
         None => None,
     };
-    Ok(SelectionWords {
-        only,
+    Ok(Selection {
+        verdicts,
         rule: given_count(matches, "rule", "--rule")?,
         line: given_count(matches, "line", "--line")?,
         host,
@@ -199,12 +170,12 @@ fn given_count<'a>(
 }
 
 /// How the words ask for packets to be shown. At most one of the two flags is there.
-fn given_form<'a>(matches: &ArgMatches<'a>) -> Result<ShowForm, Refused<'a>> {
+fn given_form<'a>(matches: &ArgMatches<'a>) -> Result<Form, Refused<'a>> {
     if matches.get_flag("count") {
-        return Ok(ShowForm::Count);
+        return Ok(Form::Count);
     }
     match matches.get_str("format") {
         Some(word) => form(word),
-        None => Ok(ShowForm::Text),
+        None => Ok(Form::Text),
     }
 }

@@ -49,9 +49,24 @@ pub(crate) enum Part {
     Surroundings(Beside),
 }
 
+/// A command of the program.
+#[derive(Clone, Copy, PartialEq, Eq)]
+pub enum CommandName {
+    Run,
+    Check,
+    Adapt,
+    Standby,
+    States,
+    Rules,
+    Diff,
+    Show,
+    Report,
+}
+
 /// A command: its name, what its help says, and its words in the order in which the help lists them.
 #[derive(Clone, Copy)]
 pub(crate) struct Said {
+    pub(crate) command: CommandName,
     pub(crate) name: &'static str,
     pub(crate) about: &'static str,
     pub(crate) example: &'static str,

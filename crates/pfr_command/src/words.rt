@@ -1,16 +1,15 @@
 //! The words of the command line.
-use crate::commands::command_line;
+use crate::commands::{command_line, command_named};
 use crate::diff::{DiffWords, diff_words};
 use crate::given::{given, given_interfaces, given_rules};
-use crate::peer::Peer;
-use crate::refused::Refused;
 use crate::report::{ReportWords, report_words};
 use crate::run::{RunWords, run_words};
 use crate::show::{ShowWords, show_words};
-use crate::values::peer;
+use crate::table::CommandName;
 use clap::ArgMatches;
 use clap::error::ErrorKind;
 use pfr_prepare::Request;
+use pfr_values::{Peer, Refused, peer};
 use std::alloc::{AllocError, Global};
 use std::rt::Env;
 use std::{env, io};
@@ -38,6 +37,8 @@ pub enum Asked<'a> {
     Report(ReportWords<'a>),
     /// To print this text and no more.
     Text(String),
+    /// Nothing: the words don't fit, as this line says.
+    Usage(String),
 }
 
 /// Where the messages stand that a standby takes.
@@ -88,19 +89,22 @@ pub fn parse<'a>(alloc: Global, words: &'a [String]) -> Result<Asked<'a>, Refuse
 
 /// What the words of a command ask for.
 fn asked_by<'a>(alloc: Global, matches: &ArgMatches<'a>) -> Result<Asked<'a>, Refused<'a>> {
-    let Some((command, matches)) = matches.subcommand() else {
+    let Some((name, matches)) = matches.subcommand() else {
+        return Err(Refused::MissingWord("COMMAND"));
+    };
+    let Some(command) = command_named(name) else {
         return Err(Refused::MissingWord("COMMAND"));
     };
     match command {
-        "run" => run_words(alloc, matches),
-        "check" => check_words(alloc, matches),
-        "adapt" => adapt_words(alloc, matches),
-        "standby" => standby_words(matches),
-        "states" => states_words(matches),
-        "rules" => rules_words(alloc, matches),
-        "diff" => diff_words(alloc, matches),
-        "show" => show_words(alloc, matches),
-        _ => report_words(alloc, matches),
+        CommandName::Run => run_words(alloc, matches),
+        CommandName::Check => check_words(alloc, matches),
+        CommandName::Adapt => adapt_words(alloc, matches),
+        CommandName::Standby => standby_words(matches),
+        CommandName::States => states_words(matches),
+        CommandName::Rules => rules_words(alloc, matches),
+        CommandName::Diff => diff_words(alloc, matches),
+        CommandName::Show => show_words(alloc, matches),
+        CommandName::Report => report_words(alloc, matches),
     }
 }
 
@@ -111,7 +115,7 @@ fn refused<'a>(alloc: Global, error: &clap::Error) -> Result<Asked<'a>, Refused<
         ErrorKind::DisplayHelp | ErrorKind::DisplayVersion => {
             Ok(Asked::Text(error.to_string(alloc)?))
         }
-        _ => Err(Refused::Usage(one_line(alloc, error)?)),
+        _ => Ok(Asked::Usage(one_line(alloc, error)?)),
     }
 }
 

@@ -7,9 +7,9 @@ ghost use Rattle.pfr_merge.specs.MergeReading.{HasPassedOn, NoneRefused};
 use crate::changes::Changes;
 use crate::decision::Meaning;
 use crate::side::Side;
-use pfr_capture::{Record, Source, Tail};
+use pfr_capture::{CaptureError, Record, Source, Tail};
 use pfr_commit::{Gate, Unwatched};
-use pfr_feed::{Sources, Stop, give_back, stop_for, viewed};
+use pfr_feed::{Sources, give_back, viewed};
 use pfr_headers::View;
 use pfr_listing::{first_line, judged_in};
 use pfr_merge::Merge;
@@ -30,11 +30,10 @@ pub struct Compared<'a> {
 }
 
 /// Why runs aren't compared.
-#[derive(Drop)]
+#[derive(Clone, Copy)]
 pub enum Stopped {
-    /// A capture is refused, or can't be read, behind the packets that the stop counts. No stop is for a ruleset or an
-    /// output.
-    Reading(Stop),
+    /// The capture at a place is refused, or can't be read, behind this many packets.
+    Reading(usize, CaptureError, u64),
     /// Memory was refused.
     Memory,
     /// What a run writes of the packet with this number isn't read.
@@ -199,7 +198,7 @@ fn take_turn<R: Source, G: Gate>(
         }
         Some(Err(refusal)) => {
             let read = taken.saturating_add(records.len() as u64);
-            Err(Stopped::Reading(stop_for(refusal, read)))
+            Err(Stopped::Reading(refusal.0, refusal.1, read))
         }
     }
 }
@@ -261,7 +260,7 @@ pub fn compare<'a, R: Source, G: Gate>(
     };
     let end = match sources.open(alloc) {
         Ok(merge) => take_all(alloc, merge, sources, &mut both, gate),
-        Err(refusal) => Err(Stopped::Reading(stop_for(refusal, 0))),
+        Err(refusal) => Err(Stopped::Reading(refusal.0, refusal.1, 0)),
     };
     concluded(both, end)
 }

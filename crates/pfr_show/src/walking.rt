@@ -3,8 +3,8 @@ ghost use Rattle.std.specs.Prelude.{◌≡◌, ◌≤◌, ◌<◌, ◌-◌, ◌^
 ghost use Rattle.pfr_merge.specs.MergeReading.{HasPassedOn, NoneRefused};
 
 use crate::joining::{Met, Misfit, Run, join};
-use pfr_capture::{Form, Record, Source, Tail};
-use pfr_feed::{Sources, Stop, give_back, stop_for, viewed};
+use pfr_capture::{CaptureError, Form, Record, Source, Tail};
+use pfr_feed::{Sources, give_back, viewed};
 use pfr_headers::View;
 use pfr_merge::Merge;
 use pfr_packet::Outcome;
@@ -20,11 +20,10 @@ const BATCH: usize = 256;
 const MOST_OF_LINE: u64 = 256;
 
 /// Why packets aren't taken any further.
-#[derive(Drop)]
+#[derive(Clone, Copy)]
 pub enum Stopped {
-    /// A capture is refused, or can't be read, behind the packets that the stop counts. No stop is for a ruleset or an
-    /// output.
-    Reading(Stop),
+    /// The capture at a place is refused, or can't be read, behind this many packets.
+    Reading(usize, CaptureError, u64),
     /// The lines can't be read.
     Lines(io::Error),
     /// No line is joined with the packet of this number.
@@ -222,7 +221,7 @@ fn take_turn<R: Source, L: BufRead, T: Taker>(
             taken: read,
             tail: Some(tail),
         }),
-        Some(Err(refusal)) => Err(Stopped::Reading(stop_for(refusal, read))),
+        Some(Err(refusal)) => Err(Stopped::Reading(refusal.0, refusal.1, read)),
     }
 }
 
@@ -293,6 +292,6 @@ pub fn walk<R: Source, L: BufRead, T: Taker>(
     };
     match sources.open(alloc) {
         Ok(merge) => walk_all(alloc, merge, sources, &mut joiner, lines, taker),
-        Err(refusal) => Err(Stopped::Reading(stop_for(refusal, 0))),
+        Err(refusal) => Err(Stopped::Reading(refusal.0, refusal.1, 0)),
     }
 }

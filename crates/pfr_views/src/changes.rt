@@ -1,19 +1,17 @@
 //! What `pfreplay diff` does.
 ghost use Rattle.std.specs.Prelude.{◌≡◌};
 
-use crate::captures::{names_of, sources};
-use crate::failure::{CHANGED, DONE, Failure};
-use crate::jobs::job_by;
-use crate::printing::{print, print_piece};
-use crate::progress::begin_progress;
 use crate::rules::rules_of;
-use crate::standard::{STANDARD, repeats_input};
 use pfr_command::DiffWords;
 use pfr_diff::{BothTold, Compared, Side, Stopped, compare};
+use pfr_files::{
+    CHANGED, DONE, Failure, Place, REFUSED, STANDARD, begin_progress, job_by, names_of, print,
+    print_piece, repeats_input, sources,
+};
 use pfr_packet::Job;
 use pfr_prepare::{Prepared, Request, prepared_text};
 use pfr_progress::Meter;
-use pfr_wording::{Rules, RulesTold};
+use pfr_wording::Rules;
 use std::alloc::{AllocGlobal, Global};
 use std::io::{Read, Write};
 use std::rt::Files;
@@ -45,19 +43,15 @@ pub fn tell_changes<'a, R: Files + AllocGlobal, I: Read + Drop, O: Write, E: Wri
     meter: &M,
 ) -> Result<u8, Failure<'a>> {
     if repeats_input(asked.captures.as_slice()) {
-        return Err(Failure::SameFile(STANDARD));
+        return Err(Failure::same_file(STANDARD));
     }
     let old = with_ruleset(rt, asked, &asked.old, err)?;
-    match with_ruleset(rt, asked, &asked.new, err) {
-        Ok(new) => {
-            let sides = Sides {
-                before: old.side,
-                after: new.side,
-            };
-            compared(rt, asked, sides, old.rules, new.rules, input, out, meter)
-        }
-        Err(failure) => Err(failure),
-    }
+    let new = with_ruleset(rt, asked, &asked.new, err)?;
+    let sides = Sides {
+        before: old.side,
+        after: new.side,
+    };
+    compare_rules(rt, asked, sides, &old.rules, &new.rules, input, out, meter)
 }
 
 /// A run with a ruleset. What is said of the ruleset's file goes to `err`.
@@ -68,63 +62,36 @@ fn with_ruleset<'a, R: Files + AllocGlobal, E: Write>(
     err: &mut E,
 ) -> Result<Ruled, Failure<'a>> {
     let text = prepared_text(rt, request, err)?;
-    match job_by(rt.alloc(), request, &text, &asked.ways, asked.seed) {
-        Ok(job) => ruled_by(rt.alloc(), &text, job),
-        Err(failure) => Err(failure.of_rules(request.name)),
-    }
+    let name = Some(request.name);
+    let job = job_by(rt.alloc(), request, &text, &asked.ways, asked.seed, name, err)?;
+    ruled_by(rt.alloc(), &text, job)
 }
 
 /// A run with a job, whose ruleset this text means.
 fn ruled_by<'a>(alloc: Global, text: &Prepared, job: Job) -> Result<Ruled, Failure<'a>> {
-    match rules_of(alloc, text, job.rules()) {
-        Ok(rules) => beginning(alloc, job, rules),
-        Err(failure) => Err(failure),
-    }
+    let rules = rules_of(alloc, text, job.rules())?;
+    let side = Side::new(alloc, job)?;
+    Ok(Ruled { side, rules })
 }
 
-/// A run with a job, of whose ruleset these are the rules.
-fn beginning<'a>(alloc: Global, job: Job, rules: Rules) -> Result<Ruled, Failure<'a>> {
-    match Side::new(alloc, job) {
-        Ok(side) => Ok(Ruled { side, rules }),
-        Err(_) => Err(Failure::NoMemory),
-    }
-}
-
-/// Compares what two rulesets come to, and prints it.
-fn compared<'a, R: Files + AllocGlobal, I: Read + Drop, O: Write, M: Meter>(
+/// Has two runs with these rules take the packets of captures, and prints what changes.
+fn compare_rules<'a, R: Files + AllocGlobal, I: Read + Drop, O: Write, M: Meter>(
     rt: &R,
     asked: &DiffWords<'a>,
     sides: Sides,
-    old: Rules,
-    new: Rules,
+    old: &Rules,
+    new: &Rules,
     input: I,
     out: &mut O,
     meter: &M,
 ) -> Result<u8, Failure<'a>> {
-    match old.told(rt.alloc()) {
-        Ok(told) => compare_with(rt, asked, sides, &told, new, input, out, meter),
-        Err(_) => Err(Failure::NoMemory),
-    }
-}
-
-/// The same, with the old rules as they are told.
-fn compare_with<'a, R: Files + AllocGlobal, I: Read + Drop, O: Write, M: Meter>(
-    rt: &R,
-    asked: &DiffWords<'a>,
-    sides: Sides,
-    old: &RulesTold<'_>,
-    new: Rules,
-    input: I,
-    out: &mut O,
-    meter: &M,
-) -> Result<u8, Failure<'a>> {
-    match new.told(rt.alloc()) {
-        Ok(told) => {
-            let told = BothTold { old, new: &told };
-            compare_captures(rt, asked, sides, told, input, out, meter)
-        }
-        Err(_) => Err(Failure::NoMemory),
-    }
+    let old = old.told(rt.alloc())?;
+    let new = new.told(rt.alloc())?;
+    let told = BothTold {
+        old: &old,
+        new: &new,
+    };
+    compare_captures(rt, asked, sides, told, input, out, meter)
 }
 
 /// Opens the captures, has two runs take their packets, and prints what changes.
@@ -140,36 +107,35 @@ fn compare_captures<'a, R: Files + AllocGlobal, I: Read + Drop, O: Write, M: Met
     let captures = asked.captures.as_slice();
     let addresses = asked.ways.link_addresses.as_slice();
     begin_progress(rt, asked.progresses, captures, meter);
-    match sources(rt, captures, addresses, input) {
-        Ok(mut sources) => {
-            let found = compare(
-                rt.alloc(),
-                &mut sources,
-                sides.before,
-                sides.after,
-                told,
-                asked.verdicts_alone,
-                meter,
-            );
-            meter.end();
-            say_changes(rt.alloc(), asked, found, out)
-        }
-        Err(failure) => Err(failure),
+    let mut sources = sources(rt, captures, addresses, input)?;
+    let found = compare(
+        rt.alloc(),
+        &mut sources,
+        sides.before,
+        sides.after,
+        told,
+        asked.verdicts_alone,
+        meter,
+    );
+    meter.end();
+    match found {
+        Ok(compared) => print_changes(rt.alloc(), asked, &compared, out),
+        Err(stopped) => Err(failure_of(stopped, asked)),
     }
 }
 
-/// Prints what changes, or says why that isn't known.
-fn say_changes<'a, O: Write>(
-    alloc: Global,
-    asked: &DiffWords<'a>,
-    found: Result<Compared<'_>, Stopped>,
-    out: &mut O,
-) -> Result<u8, Failure<'a>> {
-    match found {
-        Ok(compared) => print_changes(alloc, asked, &compared, out),
-        Err(Stopped::Reading(stop)) => Err(Failure::of_run(stop, asked.captures.as_slice())),
-        Err(Stopped::Untold(number)) => Err(Failure::PacketUntold(number)),
-        Err(Stopped::Memory) => Err(Failure::NoMemory),
+/// What is said if it isn't known what changes.
+fn failure_of<'a>(stopped: Stopped, asked: &DiffWords<'a>) -> Failure<'a> {
+    match stopped {
+        Stopped::Reading(place, refusal, read) => {
+            Failure::of_capture(asked.captures.as_slice(), place, refusal, read)
+        }
+        Stopped::Untold(number) => Failure::new(
+            REFUSED,
+            Place::Packet(number),
+            "not told: please report this",
+        ),
+        Stopped::Memory => Failure::no_memory(),
     }
 }
 

@@ -1,22 +1,25 @@
 //! Packets of captures with what a run wrote of them, as words name them.
-ghost use Rattle.std.specs.Prelude.{◌≡◌, ◌≤◌, IfOk, length};
+ghost use Rattle.std.specs.Prelude.{◌≡◌, ◌≤◌, length};
 
-use crate::captures::sources;
-use crate::failure::Failure;
-use crate::files::opened;
-use crate::standard::{has_standard_capture, is_standard, repeats_input};
 use pfr_capture::Source;
 use pfr_command::JoinedWords;
+use pfr_feed::Sources;
+use pfr_files::{
+    Failure, Place, REFUSED, has_standard_capture, is_standard, opened, repeats_input, sources,
+};
 use pfr_headers::EthernetAddress;
-use pfr_out::Sources;
-use pfr_show::{Run, Stopped, Taker, Walked, walk};
+use pfr_show::{Misfit, Run, Stopped, Taker, Walked, walk};
+use pfr_values::MOST_INTERFACES;
 use pfr_wording::RulesTold;
-use std::alloc::{AllocError, AllocGlobal, Global};
+use std::alloc::{AllocGlobal, Global};
 use std::io::{BufRead, BufReader, Read, empty};
 use std::rt::Files;
 
 /// How many bytes of the lines of verdicts are read at a time.
 const READ: usize = 65536;
+
+/// Interfaces without a link-level address.
+const NO_ADDRESSES: [Option<EthernetAddress>; MOST_INTERFACES] = [None; MOST_INTERFACES];
 
 /// Whether more than one of the files is standard input.
 pub(crate) fn takes_input_twice(words: &JoinedWords<'_>) -> bool {
@@ -46,7 +49,7 @@ pub(crate) fn take_joined<'a, R: Files + AllocGlobal, I: Read + Drop, T: Taker>(
     }
 }
 
-/// The same, with what gives the lines of verdicts, and with what stands for standard input among the captures.
+/// Does so with what gives the lines of verdicts, and with what stands for standard input among the captures.
 fn take_lines<'a, R: Files + AllocGlobal, I: Read + Drop, L: Read + Drop, T: Taker>(
     rt: &R,
     words: &JoinedWords<'a>,
@@ -55,44 +58,20 @@ fn take_lines<'a, R: Files + AllocGlobal, I: Read + Drop, L: Read + Drop, T: Tak
     lines: L,
     taker: &mut T,
 ) -> Result<Walked, Failure<'a>> {
-    match BufReader::with_capacity(rt.alloc(), READ, lines) {
-        Ok(mut lines) => take_captures(rt, words, told, input, &mut lines, taker),
-        Err(_) => Err(Failure::NoMemory),
-    }
-}
-
-/// A list of this length without a link-level address.
-fn no_addresses(alloc: Global, count: usize) -> Result<Vec<Option<EthernetAddress>>, AllocError>
-    ensures { IfOk result (λ made. length made.items ≡ count) }
-{
-    let mut made = Vec::new(alloc);
-    made.resize(count, None)?;
-    Ok(made)
-}
-
-/// The same, with the lines of verdicts.
-fn take_captures<'a, R: Files + AllocGlobal, I: Read + Drop, L: BufRead, T: Taker>(
-    rt: &R,
-    words: &JoinedWords<'a>,
-    told: &RulesTold<'_>,
-    input: I,
-    lines: &mut L,
-    taker: &mut T,
-) -> Result<Walked, Failure<'a>> {
+    let Ok(mut lines) = BufReader::with_capacity(rt.alloc(), READ, lines) else {
+        return Err(Failure::no_memory());
+    };
     let captures = words.captures.as_slice();
-    let addresses = no_addresses(rt.alloc(), captures.len())?;
-    match sources(rt, captures, addresses.as_slice(), input) {
-        Ok(mut sources) => take_sources(rt.alloc(), words, told, &mut sources, lines, taker),
-        Err(failure) => Err(failure),
-    }
+    let mut sources = sources(rt, captures, &NO_ADDRESSES[..captures.len()], input)?;
+    take_sources(rt.alloc(), words, told, &mut sources, &mut lines, taker)
 }
 
-/// The same, with the sources of the captures.
-fn take_sources<'a, R: Source, L: BufRead, T: Taker>(
+/// Does so with the sources of the captures.
+fn take_sources<'a, S: Source, L: BufRead, T: Taker>(
     alloc: Global,
     words: &JoinedWords<'a>,
     told: &RulesTold<'_>,
-    sources: &mut Sources<R>,
+    sources: &mut Sources<S>,
     lines: &mut L,
     taker: &mut T,
 ) -> Result<Walked, Failure<'a>>
@@ -111,10 +90,23 @@ fn take_sources<'a, R: Source, L: BufRead, T: Taker>(
 /// What is said if packets aren't taken any further.
 pub(crate) fn failure_of<'a>(stopped: Stopped, words: &JoinedWords<'a>) -> Failure<'a> {
     match stopped {
-        Stopped::Reading(stop) => Failure::of_run(stop, words.captures.as_slice()),
-        Stopped::Lines(_) => Failure::CannotRead(words.verdicts),
-        Stopped::Misfit(number, misfit) => Failure::Unjoined(number, misfit),
-        Stopped::Printing => Failure::PrintFailed,
-        Stopped::Memory => Failure::NoMemory,
+        Stopped::Reading(place, refusal, read) => {
+            Failure::of_capture(words.captures.as_slice(), place, refusal, read)
+        }
+        Stopped::Lines(_) => Failure::of_reading(words.verdicts),
+        Stopped::Misfit(number, misfit) => unjoined(number, misfit),
+        Stopped::Printing => Failure::of_printing(),
+        Stopped::Memory => Failure::no_memory(),
     }
+}
+
+/// What is said of a packet with which no line is joined.
+fn unjoined<'a>(number: u64, misfit: Misfit) -> Failure<'a> {
+    let reason = match misfit {
+        Misfit::NoLine => "no line of verdicts",
+        Misfit::OtherCapture => "not of this capture",
+        Misfit::OtherRuleset => "not of this ruleset",
+        Misfit::Memory => "no memory",
+    };
+    Failure::new(REFUSED, Place::Number("packet", number), reason)
 }

@@ -1,12 +1,10 @@
 //! What `pfreplay report` does.
-use crate::failure::{DONE, Failure};
-use crate::files::{opened, text_of};
 use crate::joined::{failure_of, take_joined, takes_input, takes_input_twice};
-use crate::progress::begin_progress;
-use crate::rules::{Told, told_in};
-use crate::standard::{STANDARD, is_standard};
+use crate::rules::told_in;
+use crate::states::states_refused;
 use pfr_capture::WriterSink;
-use pfr_command::{CaptureWords, ReportWords};
+use pfr_command::ReportWords;
+use pfr_files::{DONE, Failure, STANDARD, begin_progress, is_standard, opened, text_of};
 use pfr_items::Items;
 use pfr_listing::listed;
 use pfr_prepare::{held_text, prepared_from};
@@ -15,6 +13,7 @@ use pfr_report::{Ages, Captured, Counted, Subject, Tally, ages_of, print};
 use pfr_shadows::Shadow;
 use pfr_show::Walked;
 use pfr_track::Clock;
+use pfr_values::CaptureWords;
 use pfr_wording::RulesTold;
 use std::alloc::{AllocError, AllocGlobal, Global};
 use std::io::{Read, Write, empty};
@@ -48,48 +47,23 @@ pub fn report_on<'a, R: Files + AllocGlobal, I: Read + Drop, O: Write, E: Write,
     meter: &M,
 ) -> Result<u8, Failure<'a>> {
     if repeats_standard(asked) {
-        return Err(Failure::SameFile(STANDARD));
+        return Err(Failure::same_file(STANDARD));
     }
     let request = &asked.joined.rules;
     let held = held_text(rt, request)?;
     let words = Items::copied(rt.alloc(), held.as_slice())?;
     let text = prepared_from(rt, request, held, err)?;
-    let Told { rules, shadows } = told_in(rt.alloc(), request, &text)?;
-    match rules.told(rt.alloc()) {
-        Ok(told) => report_told(
-            rt,
-            asked,
-            words.as_slice(),
-            &told,
-            shadows.as_slice(),
-            input,
-            out,
-            meter,
-        ),
-        Err(_) => Err(Failure::NoMemory),
-    }
-}
-
-/// The same, with the rules as they are told, of which some are shadowed.
-fn report_told<'a, R: Files + AllocGlobal, I: Read + Drop, O: Write, M: Meter>(
-    rt: &R,
-    asked: &ReportWords<'a>,
-    words: &[u8],
-    rules: &RulesTold<'_>,
-    shadows: &[Shadow],
-    input: I,
-    out: &mut O,
-    meter: &M,
-) -> Result<u8, Failure<'a>> {
+    let told = told_in(rt.alloc(), request, &text, err)?;
+    let rules = told.rules.told(rt.alloc())?;
     let about = About {
-        words,
-        rules,
-        shadows,
+        words: words.as_slice(),
+        rules: &rules,
+        shadows: told.shadows.as_slice(),
     };
     report_rules(rt, asked, about, input, out, meter)
 }
 
-/// The same, with the rules. Standard input goes to what names it.
+/// Prints a page about packets of a run with these rules. Standard input goes to what names it.
 fn report_rules<'a, R: Files + AllocGlobal, I: Read + Drop, O: Write, M: Meter>(
     rt: &R,
     asked: &ReportWords<'a>,
@@ -107,7 +81,7 @@ fn report_rules<'a, R: Files + AllocGlobal, I: Read + Drop, O: Write, M: Meter>(
     }
 }
 
-/// The same, with what standard input has of states, and with what stands for it among the captures and the verdicts.
+/// Prints the page, with what standard input has of states, and with what stands for it among the captures and the verdicts.
 fn report_packets<'a, R: Files + AllocGlobal, I: Read + Drop, O: Write, M: Meter>(
     rt: &R,
     asked: &ReportWords<'a>,
@@ -122,14 +96,10 @@ fn report_packets<'a, R: Files + AllocGlobal, I: Read + Drop, O: Write, M: Meter
     let mut tally = Tally::new(rt.alloc(), about.rules, about.shadows, meter)?;
     let ended = take_joined(rt, joined, about.rules, input, &mut tally);
     meter.end();
-    match ended {
-        Ok(walked) => {
-            let counted = tally.counted();
-            let ages = ages_by(rt, asked, given, counted.clock())?;
-            finish(rt.alloc(), asked, about.words, counted, walked, ages, out)
-        }
-        Err(failure) => Err(failure),
-    }
+    let walked = ended?;
+    let counted = tally.counted();
+    let ages = ages_by(rt, asked, given, counted.clock())?;
+    finish(rt.alloc(), asked, about.words, counted, walked, ages, out)
 }
 
 /// The states that the words name by their ages at a clock. Their file is read now, unless standard input gave them.
@@ -153,7 +123,7 @@ fn ages_by<'a, R: Files + AllocGlobal>(
 fn ages_in<'a>(alloc: Global, states: &[u8], clock: Clock) -> Result<Ages, Failure<'a>> {
     match listed(alloc, states) {
         Ok(states) => Ok(ages_of(states.as_slice(), clock)),
-        Err(refused) => Err(Failure::StatesRefused(refused)),
+        Err(refused) => Err(states_refused(refused)),
     }
 }
 

@@ -1,9 +1,7 @@
-//! What `pfreplay rules` does.
-use crate::failure::{DONE, Failure};
-use crate::files::{opened, text_of};
-use crate::printing::print;
+//! What `pfreplay rules` does, and the rules of a ruleset for the other commands.
 use pfr_command::RulesWords;
 use pfr_expand::ruleset_of;
+use pfr_files::{Failure, Place, REFUSED, opened, print, text_of, text_refused};
 use pfr_listing::{Refused, RuleCounts, counters_in};
 use pfr_prepare::{Prepared, Request, prepared_text};
 use pfr_ruleset::Ruleset;
@@ -21,7 +19,7 @@ pub fn tell_rules<'a, R: Files + AllocGlobal, O: Write, E: Write>(
     err: &mut E,
 ) -> Result<u8, Failure<'a>> {
     let text = prepared_text(rt, &asked.rules, err)?;
-    let told = told_in(rt.alloc(), &asked.rules, &text)?;
+    let told = told_in(rt.alloc(), &asked.rules, &text, err)?;
     let counts = counts_of(rt, asked.counters, &told.rules)?;
     let said = Said {
         counts: counts.as_ref(),
@@ -37,38 +35,36 @@ pub(crate) struct Told {
     pub(crate) shadows: Vec<Shadow>,
 }
 
-/// The rules of a ruleset's text, and those that are shadowed.
-pub(crate) fn told_in<'a>(
+/// The rules of a ruleset's text, and those that are shadowed. A fault of the text is said to `err`.
+pub(crate) fn told_in<'a, E: Write>(
     alloc: Global,
-    request: &Request<'a>,
+    request: &Request<'_>,
     text: &Prepared,
+    err: &mut E,
 ) -> Result<Told, Failure<'a>> {
-    let found = ruleset_of(alloc, text.text.as_slice(), request.interfaces.as_slice());
-    match found {
+    match ruleset_of(alloc, text.text.as_slice(), request.interfaces.as_slice()) {
         Ok(ruleset) => told_of(alloc, text, &ruleset),
-        Err(fault) => Err(Failure::from(fault).in_file(text)),
+        Err(fault) => Err(text_refused(None, text, &fault, err)),
     }
 }
 
 /// The rules of a ruleset that this text means, and those that are shadowed.
 fn told_of<'a>(alloc: Global, text: &Prepared, ruleset: &Ruleset) -> Result<Told, Failure<'a>> {
+    let shadows = shadows(alloc, ruleset)?;
     let rules = rules_of(alloc, text, ruleset)?;
-    match shadows(alloc, ruleset) {
-        Ok(shadows) => Ok(Told { rules, shadows }),
-        Err(_) => Err(Failure::NoMemory),
-    }
+    Ok(Told { rules, shadows })
 }
 
-/// The rules of a ruleset's text.
-pub(crate) fn rules_in<'a>(
+/// The rules of a ruleset's text. A fault of the text is said to `err`.
+pub(crate) fn rules_in<'a, E: Write>(
     alloc: Global,
-    request: &Request<'a>,
+    request: &Request<'_>,
     text: &Prepared,
+    err: &mut E,
 ) -> Result<Rules, Failure<'a>> {
-    let found = ruleset_of(alloc, text.text.as_slice(), request.interfaces.as_slice());
-    match found {
-        Ok(rules) => rules_of(alloc, text, &rules),
-        Err(fault) => Err(Failure::from(fault).in_file(text)),
+    match ruleset_of(alloc, text.text.as_slice(), request.interfaces.as_slice()) {
+        Ok(ruleset) => rules_of(alloc, text, &ruleset),
+        Err(fault) => Err(text_refused(None, text, &fault, err)),
     }
 }
 
@@ -76,12 +72,20 @@ pub(crate) fn rules_in<'a>(
 pub(crate) fn rules_of<'a>(
     alloc: Global,
     text: &Prepared,
-    rules: &Ruleset,
+    ruleset: &Ruleset,
 ) -> Result<Rules, Failure<'a>> {
-    match Rules::of(alloc, text, rules) {
-        Ok(rules) => Ok(rules),
-        Err(Untold::OtherRules) => Err(Failure::RulesUntold),
-        Err(Untold::Memory) => Err(Failure::NoMemory),
+    Rules::of(alloc, text, ruleset).map_err(untold)
+}
+
+/// What is said of rules that aren't told.
+fn untold<'a>(why: Untold) -> Failure<'a> {
+    match why {
+        Untold::OtherRules => Failure::new(
+            REFUSED,
+            Place::Whole,
+            "rules not told: please report this ruleset",
+        ),
+        Untold::Memory => Failure::no_memory(),
     }
 }
 
@@ -91,15 +95,32 @@ fn counts_of<'a, R: Files + AllocGlobal>(
     name: Option<&'a str>,
     rules: &Rules,
 ) -> Result<Option<RuleCounts>, Failure<'a>> {
-    let Some(name) = name else {
-        return Ok(None);
-    };
+    match name {
+        Some(name) => Ok(Some(counts_in(rt, name, rules)?)),
+        None => Ok(None),
+    }
+}
+
+/// What a run counted of these rules, by its file of counters.
+fn counts_in<'a, R: Files + AllocGlobal>(
+    rt: &R,
+    name: &'a str,
+    rules: &Rules,
+) -> Result<RuleCounts, Failure<'a>> {
     let text = text_of(rt.alloc(), name, opened(rt, name)?)?;
     let (filter, translations) = rules.counts();
-    match counters_in(rt.alloc(), text.as_slice(), filter, translations) {
-        Ok(counts) => Ok(Some(counts)),
-        Err(Refused::Line(number)) => Err(Failure::CountersRefused(number)),
-        Err(Refused::Memory) => Err(Failure::NoMemory),
+    counters_in(rt.alloc(), text.as_slice(), filter, translations).map_err(counters_refused)
+}
+
+/// What is said of a file that isn't one of these rules' counters.
+fn counters_refused<'a>(refused: Refused) -> Failure<'a> {
+    match refused {
+        Refused::Line(number) => Failure::new(
+            REFUSED,
+            Place::Number("counters line", number),
+            "not of this ruleset",
+        ),
+        Refused::Memory => Failure::no_memory(),
     }
 }
 
@@ -112,6 +133,5 @@ fn print_rules<'a, O: Write>(
 ) -> Result<u8, Failure<'a>> {
     let mut text = Vec::new(alloc);
     rules.append(alloc, &mut text, said)?;
-    print(out, text.as_slice())?;
-    Ok(DONE)
+    print(out, text.as_slice())
 }

@@ -1,10 +1,7 @@
 //! What `pfreplay states` does.
-use crate::failure::{DONE, Failure};
-use crate::files::text_of;
-use crate::origin::origin_of;
-use crate::printing::{print, print_piece};
 use pfr_command::StatesWords;
-use pfr_listing::{Listed, listed, put_json, put_pfctl};
+use pfr_files::{Failure, NO_MEMORY, Place, REFUSED, origin_of, print, print_piece, text_of};
+use pfr_listing::{Listed, Refused, listed, put_json, put_pfctl};
 use std::alloc::{AllocError, Global};
 use std::io::{Read, Write};
 use std::rt::Files;
@@ -19,7 +16,17 @@ pub fn list_states<'a, R: Files + AllocGlobal, I: Read + Drop, O: Write>(
     let text = text_of(rt.alloc(), asked.name, origin_of(rt, asked.name, input)?)?;
     match listed(rt.alloc(), text.as_slice()) {
         Ok(states) => print_all(rt.alloc(), asked.as_json, states.as_slice(), out),
-        Err(refused) => Err(Failure::StatesRefused(refused)),
+        Err(refused) => Err(states_refused(refused)),
+    }
+}
+
+/// What is said of a file that isn't one of states.
+pub(crate) fn states_refused<'a>(refused: Refused) -> Failure<'a> {
+    match refused {
+        Refused::Line(number) => {
+            Failure::new(REFUSED, Place::Number("states line", number), "no state")
+        }
+        Refused::Memory => Failure::new(NO_MEMORY, Place::Whole, "no memory"),
     }
 }
 
@@ -35,8 +42,7 @@ fn print_all<'a, O: Write>(
         put(as_json, state, &mut text)?;
         print_piece(out, &mut text)?;
     }
-    print(out, text.as_slice())?;
-    Ok(DONE)
+    print(out, text.as_slice())
 }
 
 /// Appends the line of a state.

@@ -1,7 +1,0 @@
-use Rattle.std.proofs.Common.{rules}
-use Rattle.pfr_command.specs.Macs.{pair_of}
-use Rattle.pfr_command.proofs.mac.pair.Goals as goal
-
-pub returns : goal.returns
-unfolding pair_of
-returns c = search rules

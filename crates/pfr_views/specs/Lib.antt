@@ -1,4 +1,0 @@
-pub mod Heads
-pub mod Jobs
-pub mod Origins
-pub mod Standard
