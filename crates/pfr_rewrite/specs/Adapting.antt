@@ -1,8 +1,8 @@
 -- A text in the words of the strict reader.
 use Rattle.std.specs.Prelude.{ℕ, ◌+◌, ◌==◌, Bool, nat_le, if◌then◌else◌, List, [], ◌∷◌, ◌++◌, map, take, Option, Some, None}
 use Rattle.std.specs.Result.{is_ok}
-use Rattle.pfr_adapt.specs.declared.adapting.Adapted.{Adapted}
-use Rattle.pfr_adapt.specs.declared.adapting.Surroundings.{Surroundings}
+use Rattle.pfr_rewrite.specs.declared.adapting.Adapted.{Adapted}
+use Rattle.pfr_rewrite.specs.declared.adapting.Surroundings.{Surroundings}
 use Rattle.pfr_expand.specs.Texts.{ruleset_of}
 use Rattle.pfr_marks.specs.Marks.{marks}
 use Rattle.pfr_marks.specs.declared.mark.Mark.{Mark}

@@ -1,5 +1,5 @@
-use Rattle.pfr_adapt.proofs.AdaptLemmas.{accepted_stays, no_findings, same_text}
-use Rattle.pfr_adapt.proofs.laws.an_accepted_text_stays.Goals as goal
+use Rattle.pfr_rewrite.proofs.AdaptLemmas.{accepted_stays, no_findings, same_text}
+use Rattle.pfr_rewrite.proofs.laws.an_accepted_text_stays.Goals as goal
 
 pub returns-clause-accepted : goal.returns-clause-accepted
 returns-clause-accepted c = accepted_stays

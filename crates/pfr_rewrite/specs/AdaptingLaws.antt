@@ -1,8 +1,8 @@
 -- What adapting leaves as it is.
 use Rattle.std.specs.Prelude.{◌≡◌, ◌⊎◌, ℕ, List, [], true}
-use Rattle.pfr_adapt.specs.declared.adapting.Adapted.{Adapted}
-use Rattle.pfr_adapt.specs.declared.adapting.Surroundings.{Surroundings}
-use Rattle.pfr_adapt.specs.Adapting.{adapted, is_accepted, unchanged}
+use Rattle.pfr_rewrite.specs.declared.adapting.Adapted.{Adapted}
+use Rattle.pfr_rewrite.specs.declared.adapting.Surroundings.{Surroundings}
+use Rattle.pfr_rewrite.specs.Adapting.{adapted, is_accepted, unchanged}
 
 -- a text that the strict reader accepts
 abbrev pub AnAcceptedTextStays : Type 0

@@ -1,9 +1,9 @@
 -- What adapting leaves as it is.
 use Rattle.std.proofs.Common.{◌≡◌, ◌∙◌, ℕ, Bool, true, false, if◌then◌else◌, List, [], ◌∷◌, Option, Some, None, refl, subst, sym, inl, inr}
-use Rattle.pfr_adapt.specs.declared.adapting.Adapted.{Adapted}
-use Rattle.pfr_adapt.specs.declared.adapting.Surroundings.{Surroundings}
-use Rattle.pfr_adapt.specs.Adapting.{adapted, adapted_by, again_at, changes_for, first_place, is_accepted, settled, settled_by, unchanged, unsettled}
-use Rattle.pfr_adapt.specs.Laws.{Stays}
+use Rattle.pfr_rewrite.specs.declared.adapting.Adapted.{Adapted}
+use Rattle.pfr_rewrite.specs.declared.adapting.Surroundings.{Surroundings}
+use Rattle.pfr_rewrite.specs.Adapting.{adapted, adapted_by, again_at, changes_for, first_place, is_accepted, settled, settled_by, unchanged, unsettled}
+use Rattle.pfr_rewrite.specs.AdaptingLaws.{Stays}
 use Rattle.pfr_phrases.specs.Tracing.{traced}
 use Rattle.pfr_phrases.specs.declared.tracing.Piece.{Piece}
 use Rattle.pfr_marks.specs.declared.mark.Place.{Place}

@@ -1,7 +1,9 @@
 //! Texts in the words of the strict reader.
 ghost use Rattle.std.specs.Prelude.{◌≡◌, ◌≤◌, ◌++◌, [], ◌∷◌, length, IfOk, OnOk};
-ghost use Rattle.pfr_adapt.specs.Adapting as spec;
+ghost use Rattle.pfr_rewrite.specs.Adapting as spec;
 
+use crate::elsewhere::other_interfaces;
+use crate::whole::changes;
 use pfr_conf::ConfErrorKind;
 use pfr_expand::ruleset_of;
 use pfr_given::Given;
@@ -11,7 +13,6 @@ use pfr_net::IfName;
 use pfr_phrases::change::{Change, Finding, Text, finding_at};
 use pfr_phrases::reason::Reason;
 use pfr_phrases::tracing::{Piece, old_place, traced};
-use pfr_rewrite::{changes, other_interfaces};
 use pfr_ruleset::Interface;
 use pfr_words::Bytes;
 use std::alloc::{AllocError, Global};
