@@ -7,15 +7,14 @@ use crate::peer::{Connection, connected};
 use crate::same_file::repeated_output;
 use pfr_capture::{Tail, WriterSink};
 use pfr_command::{CaptureWords, Messages, RunWords, names_of};
+use pfr_notices::{Meter, Two, Warning, Watch, warn};
 use pfr_out::{Form, Gate, PacketSinks, Report, RunSettings, Sinks, Stop, replay_job};
 use pfr_packet::Job;
 use pfr_prepare::prepared_text;
-use pfr_progress::{Meter, Two};
 use pfr_views::{
     CUT, DONE, Failure, STANDARD, begin_progress, created, has_standard, is_standard, job_by,
     repeats_input, sources,
 };
-use pfr_warnings::{Warning, Watch, warn};
 use std::alloc::{AllocError, AllocGlobal};
 use std::io::{ErrorKind, Read, Write};
 use std::net::Net;

@@ -3,9 +3,9 @@ use crate::replaying::replay;
 use crate::standby::stand_by;
 use crate::summary::Summary;
 use pfr_command::{Asked, parse};
+use pfr_notices::Meter;
 use pfr_out::{StandbyStop, Stop};
 use pfr_prepare::{Prepared, Refusal, Request, prepared_text, say_faults};
-use pfr_progress::Meter;
 use pfr_views::{
     DONE, Failure, REFUSED, TROUBLE, list_states, print, report, report_on, show_packets,
     tell_changes, tell_rules,

@@ -1,7 +1,7 @@
 //! How far a command has come.
 use crate::standard::is_standard;
 use pfr_command::CaptureWords;
-use pfr_progress::Meter;
+use pfr_notices::Meter;
 use std::fs;
 use std::rt::Files;
 

@@ -10,7 +10,7 @@ use Rattle.pfr_ruleset.specs.declared.flat.NatAddress.{NatAddress}
 use Rattle.pfr_ruleset.specs.declared.flat.RdrAddress.{RdrAddress}
 use Rattle.pfr_ruleset.specs.declared.ruleset.Ruleset.{Ruleset}
 use Rattle.pfr_criteria.specs.Packets.{is_named}
-use Rattle.pfr_warnings.specs.Named.{asked_by, asked_in, each_once, is_among, with_name}
+use Rattle.pfr_notices.specs.Named.{asked_by, asked_in, each_once, is_among, with_name}
 
 neither : (first others : Bool) → (first || others) ≡ false → (first ≡ false) × (others ≡ false)
 neither true others either = absurd (true≢false either)

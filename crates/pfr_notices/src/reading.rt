@@ -1,6 +1,6 @@
 //! The numbers that tell how far a command has come.
 ghost use Rattle.std.specs.Prelude.{◌≡◌};
-ghost use Rattle.pfr_progress.specs.Readings as spec;
+ghost use Rattle.pfr_notices.specs.Readings as spec;
 
 use std::fmt;
 

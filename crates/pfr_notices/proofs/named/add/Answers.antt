@@ -1,9 +1,9 @@
 use Rattle.std.proofs.Common.{◌≡◌, false, rules, sym, subst}
 use Rattle.std.specs.List.{IsDistinct}
 use Rattle.pfr_criteria.specs.Packets.{is_named}
-use Rattle.pfr_warnings.specs.Named.{is_among}
-use Rattle.pfr_warnings.proofs.NamedLemmas.{distinct_behind}
-use Rattle.pfr_warnings.proofs.named.add.Goals as goal
+use Rattle.pfr_notices.specs.Named.{is_among}
+use Rattle.pfr_notices.proofs.NamedLemmas.{distinct_behind}
+use Rattle.pfr_notices.proofs.named.add.Goals as goal
 
 pub returns-clause-once : goal.returns-clause-once
 returns-clause-once c distinct =

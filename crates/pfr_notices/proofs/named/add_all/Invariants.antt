@@ -2,8 +2,8 @@ use Rattle.std.proofs.Common.{◌≡◌, ◌||◌, drop}
 use Rattle.std.specs.List.{IsDistinct}
 use Rattle.pfr_net.specs.declared.interface.IfName.{IfName}
 use Rattle.pfr_criteria.specs.Packets.{is_named}
-use Rattle.pfr_warnings.specs.Named.{asked_by, each_once, is_among, one_asks_for}
-use Rattle.pfr_warnings.proofs.named.add_all.Given as goal
+use Rattle.pfr_notices.specs.Named.{asked_by, each_once, is_among, one_asks_for}
+use Rattle.pfr_notices.proofs.named.add_all.Given as goal
 
 abbrev pub invariant-loop-rule : goal.invariant-loop-rule
 invariant-loop-rule g l =

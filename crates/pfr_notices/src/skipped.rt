@@ -1,6 +1,6 @@
 //! What records hold that are skipped.
 ghost use Rattle.std.specs.Prelude.{◌≡◌, ◌≤◌, length};
-ghost use Rattle.pfr_warnings.specs.Skipped as spec;
+ghost use Rattle.pfr_notices.specs.Skipped as spec;
 
 use byteorder::{BigEndian, ByteOrder, LittleEndian};
 

@@ -2,8 +2,8 @@
 use Rattle.std.specs.Prelude.{ℕ, Bool, ◌==◌, ◌&&◌, ◌||◌, nat_lt, if◌then◌else◌, List, length, drop}
 use Rattle.byteorder.specs.Endian.{big_number, little_number}
 use Rattle.pfr_headers.specs.View.{version_of}
-use Rattle.pfr_warnings.specs.declared.skipped.SkippedAs.{SkippedAs}
-use Rattle.pfr_warnings.specs.declared.skipped.SkippedAs.TheVariants.{Arp, Ipv6, Pppoe, TwoTags, Other}
+use Rattle.pfr_notices.specs.declared.skipped.SkippedAs.{SkippedAs}
+use Rattle.pfr_notices.specs.declared.skipped.SkippedAs.TheVariants.{Arp, Ipv6, Pppoe, TwoTags, Other}
 
 -- By the type of an Ethernet frame: 0x0806 is ARP (RFC 826), 0x86dd IPv6 (RFC 2464), 0x8863 and 0x8864 PPPoE (RFC 2516, section 4).
 abbrev pub of_type : ℕ → SkippedAs

@@ -4,7 +4,7 @@ ghost use Rattle.std.specs.List.{IsDistinct};
 ghost use Rattle.pfr_criteria.specs.Packets.{is_named};
 ghost use Rattle.pfr_net.specs.declared.interface.IfName.{IfName};
 ghost use Rattle.pfr_ruleset.specs.declared.interface.InterfaceCriterion.{InterfaceCriterion};
-ghost use Rattle.pfr_warnings.specs.Named as spec;
+ghost use Rattle.pfr_notices.specs.Named as spec;
 
 use pfr_criteria::is_named;
 use pfr_net::IfName;

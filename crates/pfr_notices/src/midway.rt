@@ -1,6 +1,6 @@
 //! Packets of connections that began before their capture.
 ghost use Rattle.std.specs.Prelude.{◌≡◌};
-ghost use Rattle.pfr_warnings.specs.Midway as spec;
+ghost use Rattle.pfr_notices.specs.Midway as spec;
 
 use pfr_headers::{Transport, View};
 use pfr_packet::{Outcome, Reason};

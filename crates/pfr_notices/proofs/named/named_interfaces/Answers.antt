@@ -1,8 +1,8 @@
 use Rattle.std.proofs.Common.{[], sym, subst}
 use Rattle.std.specs.List.{IsDistinct}
 use Rattle.pfr_criteria.specs.Packets.{is_named}
-use Rattle.pfr_warnings.proofs.NamedLemmas.{in_order}
-use Rattle.pfr_warnings.proofs.named.named_interfaces.Goals as goal
+use Rattle.pfr_notices.proofs.NamedLemmas.{in_order}
+use Rattle.pfr_notices.proofs.named.named_interfaces.Goals as goal
 
 pub returns-clause-order : goal.returns-clause-order
 returns-clause-order c =
