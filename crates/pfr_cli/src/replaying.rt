@@ -5,15 +5,14 @@ ghost use Rattle.pfr_files.specs.Jobs as spec;
 use pfr_capture::{Tail, WriterSink};
 use pfr_command::{Messages, RunWords, inputs_of, outputs_of};
 use pfr_files::{
-    CUT, Connection, DONE, Destination, Failure, Place, STANDARD, begin_progress, connected, created,
-    has_standard, is_standard, job_by, repeated_output, repeats_input, sources,
+    CUT, Connection, DONE, Destination, Failure, Place, STANDARD, begin_progress, connected,
+    created, has_standard, is_standard, job_by, repeated_output, repeats_input, sources,
 };
+use pfr_notices::{Meter, Two, Warning, Watch, warn};
 use pfr_out::{Form, Gate, PacketSinks, Report, RunSettings, Sinks, replay_job};
 use pfr_packet::Job;
 use pfr_prepare::prepared_text;
-use pfr_progress::{Meter, Two};
 use pfr_values::CaptureWords;
-use pfr_warnings::{Warning, Watch, warn};
 use std::alloc::{AllocError, AllocGlobal};
 use std::io::{ErrorKind, Read, Write};
 use std::net::Net;
@@ -195,7 +194,15 @@ fn job_of<'a, R: Files + AllocGlobal, E: Write>(
     ensures { IfOk result (spec.IsAsked asked.now.rules asked.now.ways asked.now.seed) }
 {
     let text = prepared_text(rt, &asked.rules, err)?;
-    job_by(rt.alloc(), &asked.rules, &text, &asked.ways, asked.seed, None, err)
+    job_by(
+        rt.alloc(),
+        &asked.rules,
+        &text,
+        &asked.ways,
+        asked.seed,
+        None,
+        err,
+    )
 }
 
 /// The form in which messages are written.

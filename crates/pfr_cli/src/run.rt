@@ -6,8 +6,8 @@ use pfr_command::{Asked, CommandName, command_of, parse};
 use pfr_files::{
     Counted, DONE, Failure, NO_MEMORY, Place, REFUSED, TROUBLE, print, report, text_refused,
 };
+use pfr_notices::Meter;
 use pfr_prepare::{Prepared, Request, prepared_text, say_faults};
-use pfr_progress::Meter;
 use pfr_values::Refused;
 use pfr_views::{list_states, report_on, show_packets, tell_changes, tell_rules};
 use std::alloc::{AllocError, Global};

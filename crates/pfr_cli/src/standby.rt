@@ -48,9 +48,7 @@ fn failure_of<'a>(stop: StandbyStop) -> Failure<'a> {
         StandbyStop::Message(number, refusal) => {
             Failure::new(REFUSED, Place::Message(number, code_of(refusal)), "")
         }
-        StandbyStop::Read(taken) => {
-            Failure::new(DEVICE, Place::Messages(taken), "read failed")
-        }
+        StandbyStop::Read(taken) => { Failure::new(DEVICE, Place::Messages(taken), "read failed") }
         StandbyStop::Write(taken) => {
             Failure::new(DEVICE, Place::Messages(taken), "write failed")
         }

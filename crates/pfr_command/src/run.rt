@@ -9,7 +9,8 @@ use clap::ArgMatches;
 use pfr_items::Items;
 use pfr_prepare::Request;
 use pfr_values::{
-    AlsoForm, CaptureWords, Peer, Places, Refused, Ways, batch, given_ways, interface, peer, places_of, workers,
+    AlsoForm, CaptureWords, Peer, Places, Refused, Ways, batch, given_ways, interface, peer,
+    places_of, workers,
 };
 use std::alloc::Global;
 

@@ -136,10 +136,7 @@ pub(crate) fn show_words<'a>(
 }
 
 /// Which packets the words ask for.
-fn given_selection<'a>(
-    alloc: Global,
-    matches: &ArgMatches<'a>,
-) -> Result<Selection, Refused<'a>> {
+fn given_selection<'a>(alloc: Global, matches: &ArgMatches<'a>) -> Result<Selection, Refused<'a>> {
     let verdicts = match matches.get_str("only") {
         Some(word) => Some(verdicts_in(alloc, word)?),
         None => None,

@@ -65,7 +65,11 @@ fn ethernet_head<'a, R: Read>(
 ) -> Result<Head, Failure<'a>> {
     let head = Head::of(alloc, capture)?;
     match head.link(alloc) {
-        Ok(Some(link)) if link != ETHERNET => Err(Failure::new(REFUSED, Place::Link(interface, link), "")),
+        Ok(Some(link)) if link != ETHERNET => Err(Failure::new(
+            REFUSED,
+            Place::Link(interface, link),
+            "",
+        )),
         Ok(_) => Ok(head),
         Err(CaptureError::Memory) => Err(Failure::from(AllocError)),
         Err(_) => Err(Failure::new(DEVICE, Place::Committed(None, 0), "read failed")),

@@ -14,10 +14,7 @@ pub fn print<'a, O: Write>(out: &mut O, text: &[u8]) -> Result<u8, Failure<'a>> 
 }
 
 /// Prints a text that grows and empties it, once it has the bytes of a piece.
-pub fn print_piece<'a, O: Write>(
-    out: &mut O,
-    text: &mut Vec<u8>,
-) -> Result<(), Failure<'a>> {
+pub fn print_piece<'a, O: Write>(out: &mut O, text: &mut Vec<u8>) -> Result<(), Failure<'a>> {
     if text.len() >= PIECE {
         print(out, text.as_slice())?;
         text.clear();

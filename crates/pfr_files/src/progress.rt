@@ -1,6 +1,6 @@
 //! How far a command has come.
 use crate::standard::is_standard;
-use pfr_progress::Meter;
+use pfr_notices::Meter;
 use pfr_values::CaptureWords;
 use std::fs;
 use std::rt::Files;

@@ -4,9 +4,9 @@ use Rattle.pfr_ruleset.specs.declared.interface.Interface.{Interface}
 use Rattle.pfr_include.specs.Turns.{with_files}
 use Rattle.pfr_include.specs.declared.file.File.{File}
 use Rattle.pfr_include.specs.declared.splicing.Included.{Included}
-use Rattle.pfr_adapt.specs.Adapting.{adapted}
-use Rattle.pfr_adapt.specs.declared.adapting.Adapted.{Adapted}
-use Rattle.pfr_adapt.specs.declared.adapting.Surroundings.{Surroundings}
+use Rattle.pfr_rewrite.specs.Adapting.{adapted}
+use Rattle.pfr_rewrite.specs.declared.adapting.Adapted.{Adapted}
+use Rattle.pfr_rewrite.specs.declared.adapting.Surroundings.{Surroundings}
 use Rattle.pfr_prepare.specs.Sources.{around_of}
 use Rattle.pfr_prepare.specs.declared.flag.Flag.{Flag}
 use Rattle.pfr_prepare.specs.declared.flag.Flag.TheVariants as flag

@@ -9,7 +9,7 @@ use Rattle.pfr_given.specs.Files.{forms, hosts, table}
 use Rattle.pfr_given.specs.Services.{services}
 use Rattle.pfr_given.specs.declared.entry.Entry.{Entry}
 use Rattle.pfr_given.specs.declared.entry.Subject.TheVariants as subject
-use Rattle.pfr_adapt.specs.declared.adapting.Surroundings.{Surroundings}
+use Rattle.pfr_rewrite.specs.declared.adapting.Surroundings.{Surroundings}
 use Rattle.pfr_prepare.specs.declared.flag.Flag.{Flag}
 use Rattle.pfr_prepare.specs.declared.flag.Flag.TheVariants as flag
 use Rattle.pfr_prepare.specs.declared.source.Source.{Source}

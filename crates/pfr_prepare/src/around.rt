@@ -4,11 +4,11 @@ ghost use Rattle.pfr_prepare.specs.Sources as spec;
 
 use crate::flag::Flag;
 use crate::source::Source;
-use pfr_adapt::Surroundings;
 use pfr_given::Given;
 use pfr_items::Items;
 use pfr_net::interface::LONGEST_NAME;
 use pfr_net::{IfName, Net};
+use pfr_rewrite::Surroundings;
 use pfr_ruleset::Interface;
 use std::alloc::{AllocError, Global};
 

@@ -2,10 +2,10 @@
 ghost use Rattle.std.specs.Prelude.{◌≡◌, []};
 ghost use Rattle.pfr_prepare.specs.Lines as spec;
 
-use pfr_adapt::{Piece, old_place};
 use pfr_include::Origin;
 use pfr_items::Items;
 use pfr_marks::mark::Place;
+use pfr_rewrite::{Piece, old_place};
 use std::alloc::Global;
 
 /// The text of a ruleset as it is to be read.

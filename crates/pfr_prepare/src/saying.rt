@@ -3,10 +3,10 @@ use crate::flag::Flag;
 use crate::hints::Hint;
 use crate::prepared::{Prepared, origin_of};
 use crate::preparing::Request;
-use pfr_adapt::{Finding, Kind};
 use pfr_faults::Fault;
 use pfr_include::{Included, Origin, Spliced};
 use pfr_remarks::Remark;
+use pfr_rewrite::{Finding, Kind};
 use std::io::Write;
 
 /// The file of this number among those that flags give for statements, from 1.

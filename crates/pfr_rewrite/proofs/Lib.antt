@@ -1,3 +1,4 @@
+pub mod AdaptLemmas
 pub mod ElsewhereLemmas
 pub mod FoundLawLemmas
 pub mod JoinLawLemmas

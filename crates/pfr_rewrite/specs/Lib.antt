@@ -1,3 +1,5 @@
+pub mod Adapting
+pub mod AdaptingLaws
 pub mod Antispoof
 pub mod Elsewhere
 pub mod Interfaces

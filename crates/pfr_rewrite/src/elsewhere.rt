@@ -145,7 +145,7 @@ fn said_of<'a>(
 /// The rules and anchors of a text that hold for no packet of a run, since they name other interfaces than the run's
 /// own. Each is reported at the first interface that it names.
 #[tactic(auto, unfolding(crate::specs::Elsewhere::other_interfaces))]
-pub fn other_interfaces<'a>(
+pub(crate) fn other_interfaces<'a>(
     alloc: Global,
     text: &'a [u8],
     own: Items<Items<u8>>,

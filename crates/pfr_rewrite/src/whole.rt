@@ -196,7 +196,7 @@ fn changes_of<'a>(
 /// What is rewritten of a text for interfaces of these names, from its beginning to its end. Nothing is if a brace
 /// isn't closed, or closes nothing, since then it isn't known where a statement ends.
 #[tactic(auto, unfolding(crate::specs::Whole::changes))]
-pub fn changes<'a>(
+pub(crate) fn changes<'a>(
     alloc: Global,
     text: &'a [u8],
     own: Items<Items<u8>>,

@@ -8,9 +8,9 @@ use pfr_files::{
     CHANGED, DONE, Failure, Place, REFUSED, STANDARD, begin_progress, job_by, names_of, print,
     print_piece, repeats_input, sources,
 };
+use pfr_notices::Meter;
 use pfr_packet::Job;
 use pfr_prepare::{Prepared, Request, prepared_text};
-use pfr_progress::Meter;
 use pfr_wording::Rules;
 use std::alloc::{AllocGlobal, Global};
 use std::io::{Read, Write};
@@ -63,7 +63,15 @@ fn with_ruleset<'a, R: Files + AllocGlobal, E: Write>(
 ) -> Result<Ruled, Failure<'a>> {
     let text = prepared_text(rt, request, err)?;
     let name = Some(request.name);
-    let job = job_by(rt.alloc(), request, &text, &asked.ways, asked.seed, name, err)?;
+    let job = job_by(
+        rt.alloc(),
+        request,
+        &text,
+        &asked.ways,
+        asked.seed,
+        name,
+        err,
+    )?;
     ruled_by(rt.alloc(), &text, job)
 }
 

@@ -1,2 +1,0 @@
-pub mod Adapting
-pub mod Laws

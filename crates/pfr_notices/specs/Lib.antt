@@ -1,0 +1,4 @@
+pub mod Midway
+pub mod Named
+pub mod Readings
+pub mod Skipped

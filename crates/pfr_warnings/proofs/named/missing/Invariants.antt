@@ -1,6 +1,0 @@
-use Rattle.std.proofs.Common.{◌≡◌, ◌++◌, drop}
-use Rattle.pfr_warnings.specs.Named as spec
-use Rattle.pfr_warnings.proofs.named.missing.Given as goal
-
-abbrev pub invariant-loop-name : goal.invariant-loop-name
-invariant-loop-name l = l.missing.items ++ spec.missing l.interfaces (drop l.name-index l.names) ≡ spec.missing l.interfaces l.names

@@ -1,3 +1,0 @@
-pub mod Midway
-pub mod Named
-pub mod Skipped
