@@ -27,12 +27,12 @@ TESTS = Path(__file__).resolve().parent
 # each is a package with a module `compare`
 WORDS = ("runs", "rulesets", "expansions", "tracking", "table", "steps", "commits", "messages", "schedules",
          "published", "devices", "workers", "matrix", "standby", "listing", "telling", "changes", "showing", "reporting",
-         "adapt", "faults", "hostile", "gateway", "manners", "documents")
+         "adapt", "faults", "hostile", "gateway", "manners", "first", "documents")
 # those without answers written by hand
-WITHOUT_MODEL_ALONE = ("workers", "hostile", "gateway", "manners", "documents")
+WITHOUT_MODEL_ALONE = ("workers", "hostile", "gateway", "manners", "first", "documents")
 # those of the program pfreplay, of run_answers and of no program; all others are of the program `answers`
 OF_PFREPLAY = ("runs", "workers", "matrix", "standby", "listing", "telling", "changes", "showing", "reporting", "adapt",
-               "faults", "hostile", "gateway", "manners")
+               "faults", "hostile", "gateway", "manners", "first")
 OF_RUNS = ("schedules", "published", "devices")
 OF_NO_PROGRAM = ("documents",)
 
