@@ -14,7 +14,7 @@ TOPS = ("bench", "crates", "docs", "examples", "share", "tests")
 PATH = re.compile(rf"(?<![\w./-])(?:{'|'.join(TOPS)})/[\w./*-]*[\w/*]")
 # names of files that are looked for where they stand alone in backquotes
 FILE = re.compile(r"[\w./*-]*\w\.(?:py|rt|antt|md|rs|rattle|nft|c)")
-PARTS = re.compile(r"(?:src|specs|proofs|must-fail)/[\w./*-]*")
+PARTS = re.compile(r"(?:src|specs|proofs|must-fail|wrong)/[\w./*-]*")
 LINK = re.compile(r"\]\(([^)\s]+)\)")
 # names of code: with `::`, with `()`, in snake_case, and of types
 SCOPED = re.compile(r"[A-Za-z]\w*(?:::\w+)+(?:\(\))?")
