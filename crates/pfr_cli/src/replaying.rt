@@ -1,5 +1,6 @@
 //! What `pfreplay run` does.
-ghost use Rattle.std.specs.Prelude.{IfOk};
+ghost use Rattle.std.specs.Prelude.{◌≡◌, Contains, IfOk, IfSome};
+ghost use Rattle.pfr_command.specs.Outputs.{file_names};
 ghost use Rattle.pfr_files.specs.Jobs as spec;
 
 use pfr_capture::{Tail, WriterSink};
@@ -118,7 +119,10 @@ fn repeated<'a, R: Files + AllocGlobal>(
     rt: &R,
     asked: &RunWords<'_>,
     outputs: &[&'a str],
-) -> Result<Option<&'a str>, AllocError> {
+) -> Result<Option<&'a str>, AllocError>
+    requires { outputs.now ≡ file_names asked.now.captures asked.now.outputs }
+    ensures { IfOk result (λ repeated. IfSome repeated (Contains (file_names asked.now.captures asked.now.outputs))) }
+{
     let inputs = inputs_of(rt.alloc(), &asked.rules)?;
     repeated_output(rt, asked.captures.as_slice(), inputs.as_slice(), outputs)
 }
