@@ -11,7 +11,7 @@ use pfr_files::{
 use pfr_notices::Meter;
 use pfr_packet::Job;
 use pfr_prepare::{Prepared, Request, prepared_text};
-use pfr_wording::Rules;
+use pfr_wording::{Rules, RulesTold};
 use std::alloc::{AllocGlobal, Global};
 use std::io::{Read, Write};
 use std::rt::Files;
@@ -94,11 +94,22 @@ fn compare_rules<'a, R: Files + AllocGlobal, I: Read + Drop, O: Write, M: Meter>
     meter: &M,
 ) -> Result<u8, Failure<'a>> {
     let old = old.told(rt.alloc())?;
+    compare_told(rt, asked, sides, &old, new, input, out, meter)
+}
+
+/// Does so with the old rules as they are told.
+fn compare_told<'a, R: Files + AllocGlobal, I: Read + Drop, O: Write, M: Meter>(
+    rt: &R,
+    asked: &DiffWords<'a>,
+    sides: Sides,
+    old: &RulesTold<'_>,
+    new: &Rules,
+    input: I,
+    out: &mut O,
+    meter: &M,
+) -> Result<u8, Failure<'a>> {
     let new = new.told(rt.alloc())?;
-    let told = BothTold {
-        old: &old,
-        new: &new,
-    };
+    let told = BothTold { old, new: &new };
     compare_captures(rt, asked, sides, told, input, out, meter)
 }
 

@@ -1,6 +1,6 @@
 //! What `pfreplay report` does.
 use crate::joined::{failure_of, take_joined, takes_input, takes_input_twice};
-use crate::rules::told_in;
+use crate::rules::{Told, told_in};
 use crate::states::states_refused;
 use pfr_capture::WriterSink;
 use pfr_command::ReportWords;
@@ -53,12 +53,35 @@ pub fn report_on<'a, R: Files + AllocGlobal, I: Read + Drop, O: Write, E: Write,
     let held = held_text(rt, request)?;
     let words = Items::copied(rt.alloc(), held.as_slice())?;
     let text = prepared_from(rt, request, held, err)?;
-    let told = told_in(rt.alloc(), request, &text, err)?;
-    let rules = told.rules.told(rt.alloc())?;
+    let Told { rules, shadows } = told_in(rt.alloc(), request, &text, err)?;
+    let told = rules.told(rt.alloc())?;
+    report_told(
+        rt,
+        asked,
+        words.as_slice(),
+        &told,
+        shadows.as_slice(),
+        input,
+        out,
+        meter,
+    )
+}
+
+/// Prints a page about packets of a run with the rules as they are told, of which some are shadowed.
+fn report_told<'a, R: Files + AllocGlobal, I: Read + Drop, O: Write, M: Meter>(
+    rt: &R,
+    asked: &ReportWords<'a>,
+    words: &[u8],
+    rules: &RulesTold<'_>,
+    shadows: &[Shadow],
+    input: I,
+    out: &mut O,
+    meter: &M,
+) -> Result<u8, Failure<'a>> {
     let about = About {
-        words: words.as_slice(),
-        rules: &rules,
-        shadows: told.shadows.as_slice(),
+        words,
+        rules,
+        shadows,
     };
     report_rules(rt, asked, about, input, out, meter)
 }

@@ -74,7 +74,10 @@ pub(crate) fn rules_of<'a>(
     text: &Prepared,
     ruleset: &Ruleset,
 ) -> Result<Rules, Failure<'a>> {
-    Rules::of(alloc, text, ruleset).map_err(untold)
+    match Rules::of(alloc, text, ruleset) {
+        Ok(rules) => Ok(rules),
+        Err(why) => Err(untold(why)),
+    }
 }
 
 /// What is said of rules that aren't told.
@@ -109,7 +112,10 @@ fn counts_in<'a, R: Files + AllocGlobal>(
 ) -> Result<RuleCounts, Failure<'a>> {
     let text = text_of(rt.alloc(), name, opened(rt, name)?)?;
     let (filter, translations) = rules.counts();
-    counters_in(rt.alloc(), text.as_slice(), filter, translations).map_err(counters_refused)
+    match counters_in(rt.alloc(), text.as_slice(), filter, translations) {
+        Ok(counts) => Ok(counts),
+        Err(refused) => Err(counters_refused(refused)),
+    }
 }
 
 /// What is said of a file that isn't one of these rules' counters.

@@ -1,11 +1,11 @@
 //! What `pfreplay show` does.
 use crate::joined::{take_joined, takes_input_twice};
 use crate::rules::rules_in;
-use pfr_capture::WriterSink;
-use pfr_command::ShowWords;
+use pfr_capture::{Sink, WriterSink};
+use pfr_command::{JoinedWords, ShowWords};
 use pfr_files::{DONE, Failure, STANDARD, names_of, print};
 use pfr_prepare::prepared_text;
-use pfr_show::{Asked, Counts, Form, Printer, Run};
+use pfr_show::{Asked, Counts, Form, Printer, Run, Walked};
 use pfr_wording::RulesTold;
 use std::alloc::{AllocGlobal, Global};
 use std::io::{Read, Write};
@@ -53,12 +53,23 @@ fn print_shown<'a, R: Files + AllocGlobal, I: Read + Drop, O: Write>(
     };
     let mut sink = WriterSink::new(&mut *out);
     let mut printer = Printer::new(rt.alloc(), shown, &mut sink);
-    let walked = take_joined(rt, &asked.joined, told, input, &mut printer)?;
+    let walked = print_joined(rt, &asked.joined, told, input, &mut printer)?;
     Ok(Counts {
         shown: printer.shown(),
         packets: walked.packets,
         tail: walked.tail,
     })
+}
+
+/// Joins packets with the lines of a run, and has a printer take them.
+fn print_joined<'a, R: Files + AllocGlobal, I: Read + Drop, K: Sink>(
+    rt: &R,
+    words: &JoinedWords<'a>,
+    told: &RulesTold<'_>,
+    input: I,
+    printer: &mut Printer<'_, K>,
+) -> Result<Walked, Failure<'a>> {
+    take_joined(rt, words, told, input, printer)
 }
 
 /// Prints how many packets there are.
