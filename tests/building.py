@@ -60,6 +60,6 @@ def run_answers(word):
 
 
 def pfreplay():
-    """The program pfreplay, which its script builds if a source is newer."""
-    ran(["./pfreplay", "--help"], ROOT)
+    """The proved program pfreplay, which its script makes if a source is newer."""
+    ran(["./pfreplay", "prove"], ROOT)
     return CRATES / "pfr_cli" / "out" / "pfr_cli"
