@@ -1,16 +1,16 @@
 //! What `pfreplay run` does.
-ghost use Rattle.std.specs.Prelude.{◌≡◌, Contains, IfOk, IfSome};
+ghost use Rattle.std.specs.Prelude.{◌≡◌, ◌≤◌, Contains, IfOk, IfSome, length};
 ghost use Rattle.pfr_command.specs.Outputs.{file_names};
 ghost use Rattle.pfr_files.specs.Jobs as spec;
 
-use pfr_capture::{Tail, WriterSink};
+use pfr_capture::{Sink, Source, Tail, WriterSink};
 use pfr_command::{Messages, RunWords, inputs_of, outputs_of};
 use pfr_files::{
     CUT, Connection, DONE, Destination, Failure, Place, STANDARD, begin_progress, connected,
     created, has_standard, is_standard, job_by, repeated_output, repeats_input, sources,
 };
 use pfr_notices::{Meter, Two, Warning, Watch, warn};
-use pfr_out::{Form, Gate, PacketSinks, Report, RunSettings, Sinks, replay_job};
+use pfr_out::{Form, Gate, PacketSinks, Report, RunSettings, Sinks, Sources, replay_job};
 use pfr_packet::Job;
 use pfr_prepare::prepared_text;
 use pfr_values::CaptureWords;
@@ -145,16 +145,40 @@ fn watched<
     meter: &M,
 ) -> Result<Report, Failure<'a>> {
     let watch = Watch::new(rt.alloc(), job.rules(), asked.warns)?;
+    let ended = metered(rt, asked, job, &watch, input, out, err, meter);
+    drop(watch);
+    ended
+}
+
+/// Does so under a watch, which says what there is to warn of.
+fn metered<
+    'a,
+    R: Files + Net + AllocGlobal + Threads + Wait + Sync,
+    I: Read + Drop,
+    O: Write + Copy,
+    E: Write,
+    M: Meter,
+>(
+    rt: &R,
+    asked: &RunWords<'a>,
+    job: Job,
+    watch: &Watch,
+    input: I,
+    out: O,
+    err: &mut E,
+    meter: &M,
+) -> Result<Report, Failure<'a>> {
     begin_progress(rt, asked.progresses, asked.captures.as_slice(), meter);
     let both = Two {
-        first: &watch,
+        first: watch,
         second: meter,
     };
     let ended = replayed(rt, asked, job, input, out, err, &both);
     meter.end();
-    let report = ended?;
-    watch.warn(report.committed, err);
-    Ok(report)
+    if let Ok(report) = &ended {
+        watch.warn(report.committed, err);
+    }
+    ended
 }
 
 /// Replays captures by a job, and writes the outputs. A gate is told of the packets.
@@ -174,16 +198,63 @@ fn replayed<
     err: &mut E,
     gate: &G,
 ) -> Result<Report, Failure<'a>> {
-    let captures = asked.captures.as_slice();
     let addresses = asked.ways.link_addresses.as_slice();
-    let mut sources = sources(rt, captures, addresses, input)?;
+    let mut sources = sources(rt, asked.captures.as_slice(), addresses, input)?;
+    let ended = replayed_from(rt, asked, job, &mut sources, out, err, gate);
+    drop(sources);
+    ended
+}
+
+/// Replays what these sources have by a job, and writes the outputs.
+fn replayed_from<
+    'a,
+    R: Files + Net + AllocGlobal + Threads + Wait + Sync,
+    S: Source,
+    O: Write + Copy,
+    E: Write,
+    G: Gate,
+>(
+    rt: &R,
+    asked: &RunWords<'a>,
+    job: Job,
+    sources: &mut Sources<S>,
+    out: O,
+    err: &mut E,
+    gate: &G,
+) -> Result<Report, Failure<'a>>
+    requires { length sources.old ≤ 8 }
+{
     let mut sinks = sinks(rt, asked, out)?;
+    let ended = replayed_into(rt, asked, job, sources, &mut sinks, err, gate);
+    drop(sinks);
+    ended
+}
+
+/// Replays what these sources have by a job into these sinks.
+fn replayed_into<
+    'a,
+    H: AllocGlobal + Threads + Wait + Sync,
+    R: Source,
+    S: Sink,
+    E: Write,
+    G: Gate,
+>(
+    rt: &H,
+    asked: &RunWords<'a>,
+    job: Job,
+    sources: &mut Sources<R>,
+    sinks: &mut Sinks<S>,
+    err: &mut E,
+    gate: &G,
+) -> Result<Report, Failure<'a>>
+    requires { length sources.old ≤ 8 }
+{
     let settings = RunSettings {
         batch: asked.batch,
         workers: asked.workers,
         form: form_of(&asked.outputs.messages),
     };
-    match replay_job(rt, &mut sources, job, settings, &mut sinks, gate) {
+    match replay_job(rt, sources, job, settings, sinks, gate) {
         Ok(report) => Ok(report),
         Err(stop) => Err(Failure::of_run(&stop, asked.captures.as_slice(), err)),
     }
@@ -224,14 +295,30 @@ fn sinks<'a, R: Files + Net + AllocGlobal, O: Write + Copy>(
     asked: &RunWords<'a>,
     out: O,
 ) -> Result<Sinks<OutputSink<R, O>>, Failure<'a>> {
+    let mut sinks = Sinks {
+        verdicts: nowhere(),
+        packets: PacketSinks::new(Vec::new(rt.alloc())),
+        counters: nowhere(),
+        states: nowhere(),
+        messages: nowhere(),
+    };
+    open_sinks(rt, asked, out, &mut sinks).and(Ok(sinks))
+}
+
+/// Has outputs that went nowhere go where the words say.
+fn open_sinks<'a, R: Files + Net + AllocGlobal, O: Write + Copy>(
+    rt: &R,
+    asked: &RunWords<'a>,
+    out: O,
+    sinks: &mut Sinks<OutputSink<R, O>>,
+) -> Result<(), Failure<'a>> {
     let names = &asked.outputs;
-    Ok(Sinks {
-        verdicts: sink(rt, names.verdicts, out)?,
-        packets: packet_sinks(rt, asked.captures.as_slice(), out)?,
-        counters: sink(rt, names.counters, out)?,
-        states: sink(rt, names.states, out)?,
-        messages: messages_sink(rt, &names.messages, out)?,
-    })
+    sinks.verdicts = sink(rt, names.verdicts, out)?;
+    sinks.packets = packet_sinks(rt, asked.captures.as_slice(), out)?;
+    sinks.counters = sink(rt, names.counters, out)?;
+    sinks.states = sink(rt, names.states, out)?;
+    sinks.messages = messages_sink(rt, &names.messages, out)?;
+    Ok(())
 }
 
 /// Creates the files of the packets, by the places of their captures.
@@ -241,11 +328,26 @@ fn packet_sinks<'a, R: Files + Net + AllocGlobal, O: Write + Copy>(
     out: O,
 ) -> Result<PacketSinks<OutputSink<R, O>>, Failure<'a>> {
     let mut sinks = Vec::with_capacity(rt.alloc(), captures.len())?;
+    add_sinks(rt, captures, out, &mut sinks).and(Ok(PacketSinks::new(sinks)))
+}
+
+/// Adds the files of the packets behind the last of these outputs.
+fn add_sinks<'a, R: Files + Net + AllocGlobal, O: Write + Copy>(
+    rt: &R,
+    captures: &[CaptureWords<'a>],
+    out: O,
+    sinks: &mut Vec<OutputSink<R, O>>,
+) -> Result<(), Failure<'a>> {
     for words in captures {
         let sink = sink(rt, words.packets, out)?;
         sinks.push(sink).map_err(AllocError::from)?;
     }
-    Ok(PacketSinks::new(sinks))
+    Ok(())
+}
+
+/// An output that goes nowhere.
+fn nowhere<F: Write + Drop, O: Write + Copy, S: Write + Drop>() -> WriterSink<Destination<F, O, S>> {
+    WriterSink::new(Destination::Nowhere)
 }
 
 /// Creates the file of an output, or takes standard output.
@@ -272,7 +374,7 @@ fn messages_sink<'a, R: Files + Net, O: Write + Copy>(
             let connection = connected(rt, peer)?;
             Ok(WriterSink::new(Destination::Stream(connection)))
         }
-        Messages::Nowhere => Ok(WriterSink::new(Destination::Nowhere)),
+        Messages::Nowhere => Ok(nowhere()),
     }
 }
 

@@ -27,11 +27,20 @@ pub fn run<
     M: Meter,
 >(rt: &R, words: &[String], input: I, out: &mut O, err: &mut E, meter: &M) -> u8 {
     match parse(rt.alloc(), words) {
-        Ok(asked) => match work(rt, &asked, input, out, err, meter) {
-            Ok(status) => status,
-            Err(failure) => fail(failure, words, err),
-        },
+        Ok(asked) => {
+            let ended = work(rt, &asked, input, out, err, meter);
+            drop(asked);
+            status_of(ended, words, err)
+        }
         Err(refused) => refuse(refused, words, err),
+    }
+}
+
+/// The status that a command answered. If it failed, it is said.
+fn status_of<E: Write>(ended: Result<u8, Failure<'_>>, words: &[String], err: &mut E) -> u8 {
+    match ended {
+        Ok(status) => status,
+        Err(failure) => fail(failure, words, err),
     }
 }
 
@@ -118,10 +127,21 @@ fn check<'a, R: Files + AllocGlobal, O: Write, E: Write>(
     err: &mut E,
 ) -> Result<u8, Failure<'a>> {
     let text = prepared_text(rt, rules, err)?;
-    let interfaces = rules.interfaces.as_slice();
-    match Summary::of(rt.alloc(), text.text.as_slice(), interfaces) {
-        Ok(summary) => print_summary(rt.alloc(), summary, out),
-        Err(fault) => Err(text_refused(None, &text, &fault, err)),
+    let summary = summed(rt.alloc(), rules, &text, err);
+    drop(text);
+    print_summary(rt.alloc(), summary?, out)
+}
+
+/// What is printed of a ruleset's text. A fault of the text is said to `err`.
+fn summed<'a, E: Write>(
+    alloc: Global,
+    rules: &Request<'_>,
+    text: &Prepared,
+    err: &mut E,
+) -> Result<Summary, Failure<'a>> {
+    match Summary::of(alloc, text.text.as_slice(), rules.interfaces.as_slice()) {
+        Ok(summary) => Ok(summary),
+        Err(fault) => Err(text_refused(None, text, &fault, err)),
     }
 }
 
@@ -144,7 +164,20 @@ fn adapt<'a, R: Files + AllocGlobal, O: Write, E: Write>(
     err: &mut E,
 ) -> Result<u8, Failure<'a>> {
     let text = prepared_text(rt, rules, err)?;
-    let status = faults(rt.alloc(), rules, &text, err)?;
+    let ended = print_adapted(rt.alloc(), rules, &text, out, err);
+    drop(text);
+    ended
+}
+
+/// Says all that is refused of a text, prints it, and answers the status.
+fn print_adapted<'a, O: Write, E: Write>(
+    alloc: Global,
+    rules: &Request<'_>,
+    text: &Prepared,
+    out: &mut O,
+    err: &mut E,
+) -> Result<u8, Failure<'a>> {
+    let status = faults(alloc, rules, text, err)?;
     print(out, text.text.as_slice())?;
     Ok(status)
 }

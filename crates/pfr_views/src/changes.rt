@@ -1,9 +1,11 @@
 //! What `pfreplay diff` does.
-ghost use Rattle.std.specs.Prelude.{◌≡◌};
+ghost use Rattle.std.specs.Prelude.{◌≡◌, ◌≤◌, length};
 
 use crate::rules::rules_of;
+use pfr_capture::Source;
 use pfr_command::DiffWords;
 use pfr_diff::{BothTold, Compared, Side, Stopped, compare};
+use pfr_feed::Sources;
 use pfr_files::{
     CHANGED, DONE, Failure, Place, REFUSED, STANDARD, begin_progress, job_by, names_of, print,
     print_piece, repeats_input, sources,
@@ -47,6 +49,19 @@ pub fn tell_changes<'a, R: Files + AllocGlobal, I: Read + Drop, O: Write, E: Wri
     }
     let old = with_ruleset(rt, asked, &asked.old, err)?;
     let new = with_ruleset(rt, asked, &asked.new, err)?;
+    compare_ruled(rt, asked, old, new, input, out, meter)
+}
+
+/// Has two runs take the packets of captures, and prints what changes.
+fn compare_ruled<'a, R: Files + AllocGlobal, I: Read + Drop, O: Write, M: Meter>(
+    rt: &R,
+    asked: &DiffWords<'a>,
+    old: Ruled,
+    new: Ruled,
+    input: I,
+    out: &mut O,
+    meter: &M,
+) -> Result<u8, Failure<'a>> {
     let sides = Sides {
         before: old.side,
         after: new.side,
@@ -82,7 +97,7 @@ fn ruled_by<'a>(alloc: Global, text: &Prepared, job: Job) -> Result<Ruled, Failu
     Ok(Ruled { side, rules })
 }
 
-/// Has two runs with these rules take the packets of captures, and prints what changes.
+/// Does so with the rules of each.
 fn compare_rules<'a, R: Files + AllocGlobal, I: Read + Drop, O: Write, M: Meter>(
     rt: &R,
     asked: &DiffWords<'a>,
@@ -127,9 +142,26 @@ fn compare_captures<'a, R: Files + AllocGlobal, I: Read + Drop, O: Write, M: Met
     let addresses = asked.ways.link_addresses.as_slice();
     begin_progress(rt, asked.progresses, captures, meter);
     let mut sources = sources(rt, captures, addresses, input)?;
+    let ended = compare_sources(rt.alloc(), asked, sides, told, &mut sources, out, meter);
+    drop(sources);
+    ended
+}
+
+/// Has two runs take the packets of sources, and prints what changes.
+fn compare_sources<'a, S: Source, O: Write, M: Meter>(
+    alloc: Global,
+    asked: &DiffWords<'a>,
+    sides: Sides,
+    told: BothTold<'_>,
+    sources: &mut Sources<S>,
+    out: &mut O,
+    meter: &M,
+) -> Result<u8, Failure<'a>>
+    requires { length sources.old ≤ 8 }
+{
     let found = compare(
-        rt.alloc(),
-        &mut sources,
+        alloc,
+        sources,
         sides.before,
         sides.after,
         told,
@@ -138,7 +170,7 @@ fn compare_captures<'a, R: Files + AllocGlobal, I: Read + Drop, O: Write, M: Met
     );
     meter.end();
     match found {
-        Ok(compared) => print_changes(rt.alloc(), asked, &compared, out),
+        Ok(compared) => print_changes(alloc, asked, &compared, out),
         Err(stopped) => Err(failure_of(stopped, asked)),
     }
 }
@@ -166,18 +198,26 @@ fn print_changes<'a, O: Write>(
     out: &mut O,
 ) -> Result<u8, Failure<'a>> {
     let names = names_of(alloc, asked.captures.as_slice())?;
-    let mut text = Vec::new(alloc);
-    for place in 0..compared.changes.len() {
-        compared
-            .changes
-            .append_flow(&mut text, names.as_slice(), place)?;
-        print_piece(out, &mut text)?;
-    }
-    compared.append_sums(alloc, &mut text)?;
-    print(out, text.as_slice())?;
+    print_flows(alloc, names.as_slice(), compared, out)?;
     if compared.changes.is_empty() {
         Ok(DONE)
     } else {
         Ok(CHANGED)
     }
+}
+
+/// Prints each flow that changes, and behind them the sums. Flows are of interfaces with these names.
+fn print_flows<'a, O: Write>(
+    alloc: Global,
+    names: &[&str],
+    compared: &Compared<'_>,
+    out: &mut O,
+) -> Result<u8, Failure<'a>> {
+    let mut text = Vec::new(alloc);
+    for place in 0..compared.changes.len() {
+        compared.changes.append_flow(&mut text, names, place)?;
+        print_piece(out, &mut text)?;
+    }
+    compared.append_sums(alloc, &mut text)?;
+    print(out, text.as_slice())
 }

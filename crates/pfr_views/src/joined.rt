@@ -61,9 +61,25 @@ fn take_lines<'a, R: Files + AllocGlobal, I: Read + Drop, L: Read + Drop, T: Tak
     let Ok(mut lines) = BufReader::with_capacity(rt.alloc(), READ, lines) else {
         return Err(Failure::no_memory());
     };
+    let ended = take_read(rt, words, told, input, &mut lines, taker);
+    drop(lines);
+    ended
+}
+
+/// Does so with what reads these lines.
+fn take_read<'a, R: Files + AllocGlobal, I: Read + Drop, L: BufRead, T: Taker>(
+    rt: &R,
+    words: &JoinedWords<'a>,
+    told: &RulesTold<'_>,
+    input: I,
+    lines: &mut L,
+    taker: &mut T,
+) -> Result<Walked, Failure<'a>> {
     let captures = words.captures.as_slice();
     let mut sources = sources(rt, captures, &NO_ADDRESSES[..captures.len()], input)?;
-    take_sources(rt.alloc(), words, told, &mut sources, &mut lines, taker)
+    let ended = take_sources(rt.alloc(), words, told, &mut sources, lines, taker);
+    drop(sources);
+    ended
 }
 
 /// Does so with the sources of the captures.

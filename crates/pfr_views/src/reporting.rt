@@ -14,7 +14,7 @@ use pfr_shadows::Shadow;
 use pfr_show::Walked;
 use pfr_track::Clock;
 use pfr_values::CaptureWords;
-use pfr_wording::RulesTold;
+use pfr_wording::{Rules, RulesTold};
 use std::alloc::{AllocError, AllocGlobal, Global};
 use std::io::{Read, Write, empty};
 use std::rt::Files;
@@ -53,18 +53,36 @@ pub fn report_on<'a, R: Files + AllocGlobal, I: Read + Drop, O: Write, E: Write,
     let held = held_text(rt, request)?;
     let words = Items::copied(rt.alloc(), held.as_slice())?;
     let text = prepared_from(rt, request, held, err)?;
-    let Told { rules, shadows } = told_in(rt.alloc(), request, &text, err)?;
-    let told = rules.told(rt.alloc())?;
-    report_told(
+    let told = told_in(rt.alloc(), request, &text, err);
+    drop(text);
+    let Told { rules, shadows } = told?;
+    report_ruled(
         rt,
         asked,
         words.as_slice(),
-        &told,
+        &rules,
         shadows.as_slice(),
         input,
         out,
         meter,
     )
+}
+
+/// Prints a page about packets of a run with these rules, of which some are shadowed.
+fn report_ruled<'a, R: Files + AllocGlobal, I: Read + Drop, O: Write, M: Meter>(
+    rt: &R,
+    asked: &ReportWords<'a>,
+    words: &[u8],
+    rules: &Rules,
+    shadows: &[Shadow],
+    input: I,
+    out: &mut O,
+    meter: &M,
+) -> Result<u8, Failure<'a>> {
+    let told = rules.told(rt.alloc())?;
+    let ended = report_told(rt, asked, words, &told, shadows, input, out, meter);
+    drop(told);
+    ended
 }
 
 /// Prints a page about packets of a run with the rules as they are told, of which some are shadowed.
@@ -119,10 +137,21 @@ fn report_packets<'a, R: Files + AllocGlobal, I: Read + Drop, O: Write, M: Meter
     let mut tally = Tally::new(rt.alloc(), about.rules, about.shadows, meter)?;
     let ended = take_joined(rt, joined, about.rules, input, &mut tally);
     meter.end();
-    let walked = ended?;
-    let counted = tally.counted();
+    finish(rt, asked, about.words, given, ended?, tally.counted(), out)
+}
+
+/// Prints the page about packets that were counted, with what standard input has of states.
+fn finish<'a, R: Files + AllocGlobal, O: Write>(
+    rt: &R,
+    asked: &ReportWords<'a>,
+    words: &[u8],
+    given: &[u8],
+    walked: Walked,
+    counted: &Counted<'_>,
+    out: &mut O,
+) -> Result<u8, Failure<'a>> {
     let ages = ages_by(rt, asked, given, counted.clock())?;
-    finish(rt.alloc(), asked, about.words, counted, walked, ages, out)
+    print_page(rt.alloc(), asked, words, counted, walked, ages, out)
 }
 
 /// The states that the words name by their ages at a clock. Their file is read now, unless standard input gave them.
@@ -150,8 +179,8 @@ fn ages_in<'a>(alloc: Global, states: &[u8], clock: Clock) -> Result<Ages, Failu
     }
 }
 
-/// Prints the page about packets that were counted.
-fn finish<'a, O: Write>(
+/// Prints the page about packets that were counted, and states of these ages.
+fn print_page<'a, O: Write>(
     alloc: Global,
     asked: &ReportWords<'a>,
     words: &[u8],

@@ -19,7 +19,21 @@ pub fn tell_rules<'a, R: Files + AllocGlobal, O: Write, E: Write>(
     err: &mut E,
 ) -> Result<u8, Failure<'a>> {
     let text = prepared_text(rt, &asked.rules, err)?;
-    let told = told_in(rt.alloc(), &asked.rules, &text, err)?;
+    let told = told_in(rt.alloc(), &asked.rules, &text, err);
+    drop(text);
+    let told = told?;
+    let ended = print_told(rt, asked, &told, out);
+    drop(told);
+    ended
+}
+
+/// Prints rules with what a run counted of them, if a file of counters is named.
+fn print_told<'a, R: Files + AllocGlobal, O: Write>(
+    rt: &R,
+    asked: &RulesWords<'a>,
+    told: &Told,
+    out: &mut O,
+) -> Result<u8, Failure<'a>> {
     let counts = counts_of(rt, asked.counters, &told.rules)?;
     let said = Said {
         counts: counts.as_ref(),

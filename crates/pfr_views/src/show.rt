@@ -6,7 +6,7 @@ use pfr_command::{JoinedWords, ShowWords};
 use pfr_files::{DONE, Failure, STANDARD, names_of, print};
 use pfr_prepare::prepared_text;
 use pfr_show::{Asked, Counts, Form, Printer, Run, Walked};
-use pfr_wording::RulesTold;
+use pfr_wording::{Rules, RulesTold};
 use std::alloc::{AllocGlobal, Global};
 use std::io::{Read, Write};
 use std::rt::Files;
@@ -24,9 +24,26 @@ pub fn show_packets<'a, R: Files + AllocGlobal, I: Read + Drop, O: Write, E: Wri
     }
     let request = &asked.joined.rules;
     let text = prepared_text(rt, request, err)?;
-    let rules = rules_in(rt.alloc(), request, &text, err)?;
+    let rules = rules_in(rt.alloc(), request, &text, err);
+    drop(text);
+    let rules = rules?;
+    let ended = show_ruled(rt, asked, &rules, input, out);
+    drop(rules);
+    ended
+}
+
+/// Shows packets of a run with these rules, and answers the status.
+fn show_ruled<'a, R: Files + AllocGlobal, I: Read + Drop, O: Write>(
+    rt: &R,
+    asked: &ShowWords<'a>,
+    rules: &Rules,
+    input: I,
+    out: &mut O,
+) -> Result<u8, Failure<'a>> {
     let told = rules.told(rt.alloc())?;
-    let counts = print_shown(rt, asked, &told, input, out)?;
+    let counts = print_shown(rt, asked, &told, input, out);
+    drop(told);
+    let counts = counts?;
     match asked.form {
         Form::Count => print_counts(rt.alloc(), counts, out),
         Form::Text | Form::Json | Form::Pflog => Ok(DONE),
