@@ -1,8 +1,9 @@
 //! The files of a run, its peers and its standard streams, and what is said when something is wrong with them.
 //!
-//! A helper of `pfr_views` and `pfr_cli`, which knows no command. Here stand the captures that words name ([`sources`]), what other
-//! files and standard streams hold ([`origin_of`], [`text_of`]), where outputs go ([`Destination`], [`Connection`]), the job that a ruleset
-//! makes ([`job_by`]), and what is said of a failure, in one line ([`Failure`]). All of it is over any files, words and streams.
+//! A helper of `pfr_views`, `pfr_runs` and `pfr_cli`, which knows no command. Here stand the captures that words name ([`sources`]),
+//! what other files and standard streams hold ([`origin_of`], [`text_of`]), where outputs go ([`Destination`], [`Connection`]), the job
+//! that a ruleset makes ([`job_by`]), and what is said of a failure, in one line ([`Failure`]). All of it is over any files, words and
+//! streams.
 #![tactic(auto)]
 
 mod captures;

@@ -1,5 +1,5 @@
-//! What a command says on standard error beside its answer: warnings, and how far it has come. A helper of `pfr_views`
-//! and `pfr_cli`.
+//! What a command says on standard error beside its answer: warnings, and how far it has come. A helper of `pfr_views`,
+//! `pfr_runs` and `pfr_cli`.
 //!
 //! A [`Watch`] and a [`Meter`] are gates that watch a run: they are told of each packet that is taken, and no output of a
 //! run depends on them. [`Two`] hands each packet on to two gates.

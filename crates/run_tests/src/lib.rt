@@ -4,8 +4,6 @@
 #![tactic(auto)]
 
 #[cfg(test)]
-mod ahead;
-#[cfg(test)]
 mod answers;
 #[cfg(test)]
 mod feeds;
@@ -13,8 +11,6 @@ mod feeds;
 mod inputs;
 #[cfg(test)]
 mod loopback;
-#[cfg(test)]
-mod orders;
 #[cfg(test)]
 mod pace;
 #[cfg(test)]

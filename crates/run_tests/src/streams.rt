@@ -4,7 +4,6 @@ ghost use Rattle.std.specs.Prelude.{◌≤◌};
 use crate::feeds::{Left, Run};
 use crate::turns::{Freely, Plan, Told, Until};
 use std::alloc::{AllocError, AllocGlobal, Global};
-use std::process::Abort;
 use std::sync::Wait;
 use std::test::Fail;
 use std::thread::Threads;
@@ -46,22 +45,6 @@ fn run_of<R: AllocGlobal + Threads + Wait + Clock + Sync>(
 /// How many lines a text has.
 fn lines(text: &[u8]) -> usize {
     text.iter().filter(|byte| **byte == b'\n').count()
-}
-
-/// Whatever the number of workers, a run comes to the same lines, states and table, and reads two batches ahead. All packets come
-/// back, as workers have released a batch that is taken.
-#[test]
-fn each_number_of_workers_comes_to_the_same(rt: HostRuntime) -> Result<(), Fail> {
-    let (first, _told) = run_of(&rt, 20, 100, 1)?;
-    assert!(rt; first.is_ok && lines(first.outputs.lines.as_slice()) == 40);
-    assert!(rt; first.states == 10 && first.shown == Some(10) && first.batches == 20);
-    for workers in [2, 4, 8] {
-        let (left, _told) = run_of(&rt, 20, 100, workers)?;
-        assert!(rt; left.is_ok && left.outputs.are(&first.outputs));
-        assert!(rt; left.states == 10 && left.shown == Some(10) && left.batches == 20);
-        assert!(rt; left.most_held == 3 && left.rested == 40);
-    }
-    Ok(())
 }
 
 /// Without workers a batch is taken before the next one is requested, nobody is told of a packet's start, and no table is shown.
@@ -108,15 +91,6 @@ fn a_piece_is_taken_in_part(rt: HostRuntime) -> Result<(), Fail> {
     Ok(())
 }
 
-/// A run without a packet shows the empty table.
-#[test]
-fn there_is_no_packet(rt: HostRuntime) -> Result<(), Fail> {
-    let (left, _told) = run_of(&rt, 0, 100, 4)?;
-    assert!(rt; left.is_ok && left.batches == 0 && left.shown == Some(0));
-    assert!(rt; left.outputs.lines.is_empty());
-    Ok(())
-}
-
 /// The piece of the first batch of three packets isn't taken whole. By then four workers have begun with all packets of the
 /// second one and the first packet of the third, and they go on once the run has stopped.
 #[derive(Clone, Copy)]
@@ -146,127 +120,5 @@ fn nothing_is_evaluated_behind_a_stop(rt: HostRuntime) -> Result<(), Fail> {
     assert!(rt; told.all_came);
     assert!(rt; left.is_ok && left.batches == 3 && left.shown == Some(0));
     assert!(rt; told.starts.count == 7 && told.starts.sum == 28);
-    Ok(())
-}
-
-/// Packets of few connections, which go on over the ends of batches. A message closes before each packet whose clock is above that
-/// of the one before, as each clock has an event.
-#[derive(Clone, Copy)]
-struct Row {
-    rules: &'static [u8],
-    packets: [(u16, u32); 14],
-    /// How many messages are closed, and how many states are left.
-    messages: usize,
-    states: usize,
-}
-
-/// The packets of three connections, at the clocks 0 to 3.
-const SHARED: Row = Row {
-    rules: b"pass out\n",
-    packets: [
-        (1000, 0),
-        (1001, 0),
-        (1000, 0),
-        (1002, 0),
-        (1000, 1),
-        (1001, 1),
-        (1000, 1),
-        (1000, 1),
-        (1002, 2),
-        (1001, 2),
-        (1000, 3),
-        (1002, 3),
-        (1001, 3),
-        (1001, 3),
-    ],
-    messages: 3,
-    states: 3,
-};
-
-/// There is room for two states: those of packets 1 and 2, and once they have run out those of 10 and 11. The other connections
-/// are blocked meanwhile.
-const FULL: Row = Row {
-    rules: b"set limit states 2\npass out\n",
-    packets: [
-        (1000, 0),
-        (1001, 0),
-        (1002, 0),
-        (1000, 1),
-        (1002, 1),
-        (1003, 1),
-        (1001, 2),
-        (1002, 2),
-        (1000, 3),
-        (1002, 100_000),
-        (1003, 100_000),
-        (1000, 100_000),
-        (1002, 100_001),
-        (1001, 100_001),
-    ],
-    messages: 5,
-    states: 2,
-};
-
-/// The states run out again and again, also between two batches, whatever their size.
-const RUN_OUT: Row = Row {
-    rules: b"pass out\n",
-    packets: [
-        (1000, 0),
-        (1000, 1),
-        (1000, 100_000),
-        (1001, 100_000),
-        (1000, 200_000),
-        (1000, 200_001),
-        (1001, 200_001),
-        (1000, 300_000),
-        (1001, 300_000),
-        (1000, 300_001),
-        (1000, 400_000),
-        (1001, 400_000),
-        (1001, 500_000),
-        (1002, 500_001),
-    ],
-    messages: 9,
-    states: 2,
-};
-
-/// Sees that each number of workers comes to what a run without workers does, with batches of a size.
-fn see_all_numbers<R: Abort + AllocGlobal + Threads + Wait + Clock + Sync>(
-    rt: &R,
-    row: &Row,
-    size: usize,
-) -> Result<(), AllocError> {
-    let run = Run {
-        rules: row.rules,
-        packets: &row.packets,
-        size,
-        takes: u64::MAX,
-    };
-    let (alone, _told) = run.by(rt, 0, Freely)?;
-    assert!(rt; alone.is_ok && alone.own == 14 && alone.states == row.states);
-    assert!(rt; lines(alone.outputs.lines.as_slice()) == 14);
-    assert!(rt; alone.outputs.messages == row.messages);
-    for workers in [1, 2, 3, 8] {
-        let (left, _told) = run.by(rt, workers, Freely)?;
-        assert!(rt;
-            left.is_ok && left.outputs.are(&alone.outputs),
-            "{workers} workers, batches of {size}"
-        );
-        assert!(rt;
-            left.states == row.states && left.shown == Some(row.states),
-            "{workers} workers, batches of {size}"
-        );
-    }
-    Ok(())
-}
-
-/// Whatever the number of workers and the size of batches, a run comes to the same lines, packets, messages and states.
-#[test]
-fn connections_go_on_over_the_ends_of_batches(rt: HostRuntime) -> Result<(), Fail> {
-    for row in [SHARED, FULL, RUN_OUT] {
-        for size in [1, 2, 7] {
-            see_all_numbers(&rt, &row, size)?;
-        }
-    }
     Ok(())
 }

@@ -68,8 +68,6 @@ pub(crate) enum Until {
     Asked(u64),
     /// This number of packets were started.
     Started(u64),
-    /// This number of packets were answered.
-    Answered(u64),
     /// A piece wasn't taken whole, and the run has stopped by then.
     Stopped,
 }
@@ -157,7 +155,6 @@ impl<'a, R: Clock, P: Plan> Turns<'a, R, P> {
         match until {
             Until::Asked(count) => self.asked.count() >= count,
             Until::Started(count) => self.starts.count() >= count,
-            Until::Answered(count) => self.answered.count() >= count,
             Until::Stopped => self.cut.count() > 0,
         }
     }

@@ -3,7 +3,7 @@ ghost use Rattle.std.specs.Prelude.{◌≡◌};
 
 use crate::states::{key, number_of, state};
 use pfr_history::Opened;
-use pfr_published::{Published, StoreWriter, TableNaming, Told, Viewer, known};
+use pfr_published::{Published, StoreWriter, TableNaming, Told, Viewer};
 use pfr_states::{Change, TableChange};
 use pfr_track::Clock;
 use std::alloc::Global;
@@ -101,105 +101,4 @@ fn seen_beside<
 fn another_thread_sees_what_is_published(rt: HostRuntime) {
     let seen = seen_beside::<Brand, _>(rt, rt.alloc(), Opened::new(), 2);
     assert!(rt; seen == (2, 2));
-}
-
-fn learns_late<J: TableNaming, R: Wait + Abort>(
-    rt: &R,
-    alloc: Global,
-    opened: Opened<Change>,
-    limit: usize,
-)
-    requires history { opened ≡ J.history }
-    requires limit { limit ≡ J.limit }
-{
-    let history = opened.named::<J>();
-    let published = Published::new(alloc, &history, limit, 2).expect(rt, "memory");
-    let mut viewer = published.viewer(&history).expect(rt, "a place");
-    let other = published.viewer(&history).expect(rt, "another place");
-    assert!(rt; published.viewer(&history).is_err());
-    let one = list(rt, alloc, &[made(1, 60)]);
-    let (published, first) = published.publish(rt, &history, one);
-    let early = published.tell();
-    let two = list(rt, alloc, &[made(2, 60), made(3, 60)]);
-    let (published, second) = published.publish(rt, &history, two);
-    let late = published.tell();
-    assert!(rt; first.is_ok() && second.is_ok());
-    viewer.learn(late);
-    viewer.learn(early);
-    assert!(rt; look(viewer).1 == (3, 1) && look(other).1 == (3, 1));
-    drop(published.close(rt));
-}
-
-/// What was told first is learned last. There are two viewers, and no place for a third one.
-#[test]
-fn a_viewer_learns_late_and_out_of_order(rt: HostRuntime) {
-    learns_late::<Brand, _>(&rt, rt.alloc(), Opened::new(), 4);
-}
-
-fn refuses<J: TableNaming, R: Wait + Abort>(
-    rt: &R,
-    alloc: Global,
-    opened: Opened<Change>,
-    limit: usize,
-)
-    requires history { opened ≡ J.history }
-    requires limit { limit ≡ J.limit }
-{
-    let history = opened.named::<J>();
-    let published = Published::new(alloc, &history, limit, 1).expect(rt, "memory");
-    let mut viewer = published.viewer(&history).expect(rt, "a place");
-    let one = list(rt, alloc, &[made(1, 60)]);
-    let (published, first) = published.publish(rt, &history, one);
-    let purged_and_made = list(rt, alloc, &[Change::Purge(Clock(9)), made(2, 60)]);
-    let (published, full) = published.publish(rt, &history, purged_and_made);
-    let purged = list(rt, alloc, &[Change::Purge(Clock(60))]);
-    let (published, later) = published.publish(rt, &history, purged);
-    assert!(rt; first.is_ok() && full.is_err() && later.is_err());
-    viewer.learn(published.tell());
-    let (viewer, seen) = look(viewer);
-    assert!(rt; seen == (1, 1));
-    let mut table = published.close(rt).expect(rt, "a table");
-    assert!(rt; table.len() == 1 && look(viewer).1 == (0, 0));
-    table.purge(Clock(60));
-    assert!(rt; table.len() == 0);
-}
-
-/// Once the table is full, nothing more is published. What was published is still shown until the end.
-#[test]
-fn a_refusal_is_for_good(rt: HostRuntime) {
-    refuses::<Brand, _>(&rt, rt.alloc(), Opened::new(), 1);
-}
-
-fn hides<J: TableNaming, R: Wait + Abort>(
-    rt: &R,
-    alloc: Global,
-    opened: Opened<Change>,
-    limit: usize,
-)
-    requires history { opened ≡ J.history }
-    requires limit { limit ≡ J.limit }
-{
-    let history = opened.named::<J>();
-    let published = Published::new(alloc, &history, limit, 1).expect(rt, "memory");
-    let viewer = published.viewer(&history).expect(rt, "a place");
-    let one = list(rt, alloc, &[made(1, 60)]);
-    let (published, first) = published.publish(rt, &history, one);
-    let (mut viewer, seen) = look(viewer);
-    assert!(rt; first.is_ok() && seen == (1, 1));
-    let two = known(alloc, &[made(2, 60), made(3, 60)]).expect(rt, "memory");
-    let (published, second) = published.publish_hidden(rt, &history, two.as_slice());
-    let more = list(rt, alloc, &[made(4, 60)]);
-    let (published, third) = published.publish(rt, &history, more);
-    assert!(rt; second.is_ok() && third.is_ok());
-    viewer.learn(published.tell());
-    let seen = look(viewer).1;
-    let table = published.close(rt);
-    assert!(rt; seen == (0, 0) && table.is_none());
-}
-
-/// Once the table is hidden, nobody is shown it any more, nor what is published later. Its list goes on, though there
-/// is room for only one state.
-#[test]
-fn a_hidden_table_is_shown_to_nobody(rt: HostRuntime) {
-    hides::<Brand, _>(&rt, rt.alloc(), Opened::new(), 1);
 }

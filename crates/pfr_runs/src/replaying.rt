@@ -231,14 +231,7 @@ fn replayed_from<
 }
 
 /// Replays what these sources have by a job into these sinks.
-fn replayed_into<
-    'a,
-    H: AllocGlobal + Threads + Wait + Sync,
-    R: Source,
-    S: Sink,
-    E: Write,
-    G: Gate,
->(
+fn replayed_into<'a, H: AllocGlobal + Threads + Wait + Sync, R: Source, S: Sink, E: Write, G: Gate>(
     rt: &H,
     asked: &RunWords<'a>,
     job: Job,
@@ -346,7 +339,9 @@ fn add_sinks<'a, R: Files + Net + AllocGlobal, O: Write + Copy>(
 }
 
 /// An output that goes nowhere.
-fn nowhere<F: Write + Drop, O: Write + Copy, S: Write + Drop>() -> WriterSink<Destination<F, O, S>> {
+fn nowhere<F: Write + Drop, O: Write + Copy, S: Write + Drop>() -> WriterSink<
+    Destination<F, O, S>,
+> {
     WriterSink::new(Destination::Nowhere)
 }
 
