@@ -1,5 +1,5 @@
 //! The job of a run: what its packets are evaluated by.
-ghost use Rattle.std.specs.Prelude.{◌≡◌, ◌↔◌, ◌&&◌, nat_lt, IfOk, IfErr, Ok, Err, IsTrue};
+ghost use Rattle.std.specs.Prelude.{◌≡◌, ◌↔◌, ◌&&◌, [], nat_lt, IfOk, IfErr, OnOk, Ok, Err, IsTrue};
 ghost use Rattle.std.specs.List.{list_any};
 ghost use Rattle.pfr_net.specs.Networks.{holds};
 ghost use Rattle.pfr_terms.specs.declared.error.ConfErrorKind.TheVariants.{Memory};
@@ -44,6 +44,47 @@ impl Model for Job {
     ghost invariant = { λ j. ruleset_of j.text j.interfaces ≡ Ok j.rules };
 }
 
+/// The inputs of a job that are lists: the ruleset's text, the interfaces and the networks whose packets go out.
+#[derive(Drop)]
+struct Inputs {
+    text: Items<u8>,
+    interfaces: Items<Interface>,
+    inside: Items<Net>,
+}
+
+impl Inputs {
+    fn copied(
+        alloc: Global,
+        text: &[u8],
+        interfaces: &[Interface],
+        inside: &[Net],
+    ) -> Result<Inputs, AllocError>
+        ensures { IfOk result (λ inputs. (inputs.text ≡ text.now) × (inputs.interfaces ≡ interfaces.now) × (inputs.inside ≡ inside.now)) }
+    {
+        let mut inputs = Inputs {
+            text: Items::new(alloc),
+            interfaces: Items::new(alloc),
+            inside: Items::new(alloc),
+        };
+        inputs.fill(text, interfaces, inside).and(Ok(inputs))
+    }
+
+    /// Puts the elements of each list in.
+    fn fill(
+        &mut self,
+        text: &[u8],
+        interfaces: &[Interface],
+        inside: &[Net],
+    ) -> Result<(), AllocError>
+        requires { (self.old.text ≡ []) × (self.old.interfaces ≡ []) × (self.old.inside ≡ []) }
+        ensures { OnOk result ((self.new.text ≡ text.now) × (self.new.interfaces ≡ interfaces.now) × (self.new.inside ≡ inside.now)) }
+    {
+        self.text.extend_from_slice(text)?;
+        self.interfaces.extend_from_slice(interfaces)?;
+        self.inside.extend_from_slice(inside)
+    }
+}
+
 impl Job {
     /// A job by its inputs, or the first fault of the ruleset's text. A text of more than one MiB is refused before it
     /// is read. No network is excepted, no link-level address is known, and packets were captured on the side of the
@@ -80,28 +121,32 @@ impl Job {
         ensures meaning { IfOk result (λ job. job.rules ≡ rules) }
         ensures memory { IfErr result (λ fault. (fault.kind ≡ Memory) × (fault.line ≡ 0)) }
     {
-        let text = match Items::copied(alloc, text) {
-            Ok(text) => text,
-            Err(_) => return Err(no_memory()),
-        };
-        let interfaces = match Items::copied(alloc, interfaces) {
-            Ok(interfaces) => interfaces,
-            Err(_) => return Err(no_memory()),
-        };
-        let inside = match Items::copied(alloc, inside) {
-            Ok(inside) => inside,
-            Err(_) => return Err(no_memory()),
-        };
-        Ok(Job {
-            text,
-            interfaces,
-            inside,
+        match Inputs::copied(alloc, text, interfaces, inside) {
+            Ok(inputs) => Ok(Job::by(alloc, inputs, seed, rules)),
+            Err(_) => {
+                drop(rules);
+                Err(no_memory())
+            }
+        }
+    }
+
+    /// A job with these inputs, and the ruleset that they mean.
+    fn by(alloc: Global, inputs: Inputs, seed: [u8; 32], rules: Ruleset) -> Job
+        requires { ruleset_of inputs.text inputs.interfaces ≡ Ok rules }
+        ensures inputs { (result.text ≡ inputs.text) × (result.interfaces ≡ inputs.interfaces) × (result.inside ≡ inputs.inside) × (result.seed ≡ seed) }
+        ensures settings { spec.HasDefaults result }
+        ensures meaning { result.rules ≡ rules }
+    {
+        Job {
+            text: inputs.text,
+            interfaces: inputs.interfaces,
+            inside: inputs.inside,
             excepted: Items::new(alloc),
             link_addresses: Items::new(alloc),
             tap: Tap::Stack,
             seed,
             rules,
-        })
+        }
     }
 
     /// The job for packets that were captured on the side `tap` of their translation.
@@ -116,8 +161,13 @@ impl Job {
     pub fn with_excepted(self, alloc: Global, networks: &[Net]) -> Result<Job, AllocError>
         ensures { IfOk result (λ job. job ≡ record self { excepted = networks.now }) }
     {
-        let excepted = Items::copied(alloc, networks)?;
-        Ok(Job { excepted, ..self })
+        match Items::copied(alloc, networks) {
+            Ok(excepted) => Ok(Job { excepted, ..self }),
+            Err(refused) => {
+                drop(self);
+                Err(refused)
+            }
+        }
     }
 
     /// The job with the link-level addresses of the interfaces, by their places, if they are known. On an interface
@@ -129,11 +179,16 @@ impl Job {
     ) -> Result<Job, AllocError>
         ensures { IfOk result (λ job. job ≡ record self { link_addresses = addresses.now }) }
     {
-        let link_addresses = Items::copied(alloc, addresses)?;
-        Ok(Job {
-            link_addresses,
-            ..self
-        })
+        match Items::copied(alloc, addresses) {
+            Ok(link_addresses) => Ok(Job {
+                link_addresses,
+                ..self
+            }),
+            Err(refused) => {
+                drop(self);
+                Err(refused)
+            }
+        }
     }
 
     /// Whether two jobs are the same: they have the same inputs.
