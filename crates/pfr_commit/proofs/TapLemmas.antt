@@ -1,6 +1,5 @@
 -- Without translation rules it makes no difference where packets were captured.
-use Rattle.std.proofs.Common.{◌≡◌, ◌∙◌, ◌+◌, ℕ, List, [], ◌∷◌, Option, Some, None, not, inl, inr, refl, sym, ap, subst}
-use Rattle.std.specs.List.{Contains}
+use Rattle.std.proofs.Common.{◌≡◌, ◌∙◌, ◌+◌, ℕ, List, [], ◌∷◌, Option, Some, None, not, inl, inr, refl, sym, ap}
 use Rattle.pfr_net.specs.declared.interface.InterfacePlace.{InterfacePlace}
 use Rattle.pfr_headers.specs.declared.tap.Tap.{Tap}
 use Rattle.pfr_headers.specs.View.{view_of}
@@ -15,7 +14,6 @@ use Rattle.pfr_packet.specs.declared.outcome.Outcome.{Outcome}
 use Rattle.pfr_packet.specs.Job.{RunJob}
 use Rattle.pfr_packet.specs.Laws.{IsOwnChange}
 use Rattle.pfr_packet.specs.Settings.{AreUntranslated, HasNoTranslations, MadeUntranslated, TapChangesNothing}
-use Rattle.pfr_packet.specs.Steps.{step_of}
 use Rattle.pfr_telling.specs.Telling.{changed}
 use Rattle.pfr_telling.proofs.ChangeLemmas.{from_touched, from_with}
 use Rattle.pfr_commit.proofs.TableLemmas.{OwnChanges}

@@ -404,25 +404,62 @@ impl Book {
         if self.is_over {
             return Err(AllocError);
         }
-        let results = match of_one(self.alloc, speculation.as_ref()) {
-            Ok(results) => results,
+        match of_one(self.alloc, speculation.as_ref()) {
+            Ok(results) => {
+                let taken = self.take_alone(packet, &view, &results);
+                drop(results);
+                taken
+            }
             Err(refused) => {
                 self.is_over = true;
-                return Err(refused);
+                Err(refused)
             }
-        };
-        let mut out = Emitted::new(self.alloc);
-        out.changes = Some(Changes::Kept(Vec::new(self.alloc)));
-        self.take(packet, &view, &results, 0, None, &Unwatched, &mut out)?;
-        Ok(out)
+        }
     }
 
-    /// What stands at the end of a run.
+    /// Takes the next packet, with the first of these results or without, and answers what it adds to the outputs, and
+    /// what it did to the table.
+    fn take_alone(
+        &mut self,
+        packet: &Record,
+        view: &View,
+        results: &ResultsByPlace<'_>,
+    ) -> Result<Emitted, AllocError>
+        requires view { view.now ≡ view_of packet.now.link packet.now.bytes.items }
+        requires few { self.old.count < 2 ^ 43 }
+        requires open { self.old.is_over ≡ false }
+        requires of_job { IsOfJobAt (job_of self.old) 0 results.now }
+        ensures world { IfOk result (λ emitted. world_with self.new emitted ≡ untold (after_packet self.old packet.now (world_in self.old))) }
+        ensures told { IfOk result (λ emitted. LeadsOn self.old self.new emitted (after_packet self.old packet.now)) }
+        ensures changes { IfOk result (λ it. held_changes it ≡ Some (true, (after_packet self.old packet.now (world_in self.old)).changes)) }
+        ensures job { self.new.job ≡ self.old.job }
+        ensures kept { OnErr result ((self.new.count ≡ self.old.count) × (self.new.own ≡ self.old.own)) }
+        ensures used { OnOk result (MayUseNext (result_at 0 results.now) self.old packet.now view.now → self.new.own ≡ self.old.own) }
+        ensures evaluated { OnOk result ((MayUseNext (result_at 0 results.now) self.old packet.now view.now → ⊥) → self.new.own ≡ self.old.own + 1) }
+        ensures ok { OnOk result (self.new.is_over ≡ false) }
+        ensures err { OnErr result (self.new.is_over ≡ true) }
+    {
+        let mut out = Emitted::new(self.alloc);
+        out.changes = Some(Changes::Kept(Vec::new(self.alloc)));
+        match self.take(packet, view, results, 0, None, &Unwatched, &mut out) {
+            Ok(()) => Ok(out),
+            Err(refused) => {
+                drop(out);
+                Err(refused)
+            }
+        }
+    }
+
+    /// What stands at the end of a run. There is nothing after memory was refused.
     fn end(&mut self) -> Result<Ending, AllocError>
         ensures message { IfOk result (λ ending. IsLastMessage self.old ending.message) }
         ensures counters { IfOk result (λ ending. ending.counters.items ≡ counters_text self.old.count self.old.counters) }
         ensures states { IfOk result (λ ending. ending.states.items ≡ states_text (job_of self.old).rules.interfaces self.old.table.states) }
+        ensures ok { OnOk result (self.old.is_over ≡ false) }
     {
+        if self.is_over {
+            return Err(AllocError);
+        }
         let message = self.telling.close(self.clock)?;
         let interfaces = self.job.rules().interfaces.as_slice();
         Ending::new(
@@ -442,9 +479,8 @@ impl Book {
         ensures states { IfOk result (λ ending. ending.states.items ≡ states_text (job_of self).rules.interfaces self.table.states) }
         ensures ok { OnOk result (self.is_over ≡ false) }
     {
-        if self.is_over {
-            return Err(AllocError);
-        }
-        self.end()
+        let ending = self.end();
+        drop(self);
+        ending
     }
 }

@@ -1,5 +1,5 @@
 //! From statements to the flat ruleset.
-ghost use Rattle.std.specs.Prelude.{◌≡◌, ◌<◌, ◌≤◌, ◌+◌, false, OnOk, IfOk};
+ghost use Rattle.std.specs.Prelude.{◌≡◌, ◌<◌, ◌≤◌, ◌+◌, [], false, OnOk, IfOk};
 ghost use Rattle.pfr_ruleset.specs.Places.{ArePlaced, joined};
 ghost use Rattle.pfr_terms.specs.Input.{Gives};
 ghost use Rattle.pfr_elements.specs.Values.{begun, taken_at};
@@ -107,6 +107,13 @@ fn add_rules(
 }
 
 impl<'a> Work<'a> {
+    /// The flat ruleset that was made.
+    fn into_flat(self) -> Ruleset
+        ensures { result ≡ self.entry.flat }
+    {
+        self.flat
+    }
+
     /// Before the first statement the table of the interfaces' own addresses is defined alone.
     fn new(
         alloc: Global,
@@ -115,19 +122,43 @@ impl<'a> Work<'a> {
     ) -> Result<Work<'a>, AllocError>
         ensures { IfOk result (λ work. work ≡ spec.started interfaces.now tables.entry) }
     {
-        let flat = Ruleset::new(alloc, interfaces)?;
-        let interfaces = Items::copied(alloc, interfaces)?;
-        Ok(Work {
-            scope: Scope {
-                interfaces,
-                macros: Macros::new(alloc),
-                tables,
-                defined: 1,
-            },
-            entries: 0,
-            translations: 0,
-            flat,
-        })
+        match Items::copied(alloc, interfaces) {
+            Ok(named) => {
+                let scope = Scope {
+                    interfaces: named,
+                    macros: Macros::new(alloc),
+                    tables,
+                    defined: 1,
+                };
+                Work::with_scope(alloc, interfaces, scope)
+            }
+            Err(refused) => {
+                drop(tables);
+                Err(refused)
+            }
+        }
+    }
+
+    /// No rules and no entries yet, and what gives words their meaning.
+    fn with_scope(
+        alloc: Global,
+        interfaces: &[Interface],
+        scope: Scope<'a>,
+    ) -> Result<Work<'a>, AllocError>
+        ensures { IfOk result (λ work. work ≡ record (spec.started interfaces.now []) { scope = scope.entry }) }
+    {
+        match Ruleset::new(alloc, interfaces) {
+            Ok(flat) => Ok(Work {
+                scope,
+                entries: 0,
+                translations: 0,
+                flat,
+            }),
+            Err(refused) => {
+                drop(scope);
+                Err(refused)
+            }
+        }
     }
 
     /// How many rules there are; one more than there may be stands for itself and all larger numbers.
@@ -367,7 +398,12 @@ pub fn expand(
 ) -> Result<Ruleset, ConfError>
     ensures { Gives (spec.expanded statements.now interfaces.now) result }
 {
-    let mut ruleset = work_of(alloc, statements.statements.as_slice(), interfaces)?.flat;
-    ruleset.index(alloc)?;
-    Ok(ruleset)
+    let mut ruleset = work_of(alloc, statements.statements.as_slice(), interfaces)?.into_flat();
+    match ruleset.index(alloc) {
+        Ok(()) => Ok(ruleset),
+        Err(refused) => {
+            drop(ruleset);
+            Err(ConfError::from(refused))
+        }
+    }
 }
