@@ -77,6 +77,18 @@ def elsewhere_scripts():
     yield told(run, calls, "holds", "holds", *answer(run, [opened(1)], 1), "fails", *answer(run, [opened(2)], 2))
 
 
+def several_script():
+    """A batch of packets of three interfaces, one of which is skipped. One result is of another interface."""
+    own = udp(P, 9, E, 9)
+    run = run_of("packets of three interfaces in one batch",
+                 f"set skip on em2\n{BOUND}block in\npass in to self no state\npass out on em1",
+                 (0, 1, ASKED), (0, 1, own), (1, 0, ASKED), (1, 2, REPLY))
+    return told(run, [*found_out(run, 1, 2), Speculate(0, 3, 3, 1, 1), *found_out(run, 4), Batch(4, (0, 1, 2, 3))],
+                *answer(run, [opened(1, rule=2), passed(2, "in pass rule r=1 t=- s=-", own),
+                              passed(3, "out pass default r=- t=- s=-", ASKED, 1),
+                              passed(4, "- pass skip-on r=- t=- s=-", REPLY, 1)], 1, 290))
+
+
 # States of one key
 
 def bound_script():
@@ -206,6 +218,7 @@ def removed_least_script():
 def rows():
     """Scripts, each with the lines that it is answered with before the end. For messages these have their sizes."""
     yield from elsewhere_scripts()
+    yield several_script()
     yield from (bound_script(), floating_script(), removed_script())
     for make in (beside_scripts, error_scripts, room_scripts, port_scripts, least_scripts, due_scripts):
         yield from make()
