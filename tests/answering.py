@@ -8,6 +8,12 @@ TIME_LIMIT = 600
 SHOWN = 5
 
 
+def least_of(part, least):
+    """How often at least something has to come up with one in `part` of the cases, if it has to come up `least` times with
+    all. Few cases scatter more, so half of a part's share will do."""
+    return least if part == 1 else max(1, least // (2 * part))
+
+
 def cut(lines):
     """The lines before each line `end`, and then those after the last one."""
     answers = [[]]

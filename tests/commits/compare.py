@@ -14,20 +14,22 @@ import messages.rows
 import steps.cases
 import steps.place_cases
 import steps.rows
-from answering import SHOWN, answers_of, differing, place_of_difference, show_lines
+from answering import SHOWN, answers_of, differing, least_of, place_of_difference, show_lines
 from commits import cases, place_kinds, place_rows, place_scripts, translation_scripts
 from commits.cases import (in_batches, some_placed, some_runs_with_messages, some_scripts, some_translated,
                            some_with_messages)
 from commits.standby import row_faults, with_sizes
-from faults.command import ends_lawfully
+from faults.command import end_lawfully
 from steps.written_packets import spoilt_sums
 
 BATCHES = (1, 2, 256)
 RANDOM_PACKETS, TRANSLATED_PACKETS, PLACED_PACKETS = 9000, 10000, 12000
-# how often each kind of result and of what is written on several interfaces has to come up at least
-LEAST = 20
 # random runs of which much is told
 RUNS_WITH_MESSAGES = 30
+# one in so many of the random packets and runs is compared, and of the allocations one is refused; all of them with `--all`
+PART = 7
+# how often each kind of result and of what is written on several interfaces has to come up at least in all of them
+LEAST = 20
 # how many packets the random scripts have in which each allocation is refused; of the scripts with translation and on
 # several interfaces that are written out each such one is run so
 REFUSED_PACKETS, REFUSED_STEP = 65, 5
@@ -59,7 +61,7 @@ def show(script, expected, seen):
     show_lines(place, expected, seen)
 
 
-def compare(command, title, told, kinds=None):
+def compare(command, title, told, kinds=None, least=LEAST):
     """How many scripts are answered otherwise than by the model, how many packets get wrong checksums, and how many of
     some kinds, which stand by titles, come up too seldom."""
     books = [script.by_model() for script in told]
@@ -74,8 +76,8 @@ def compare(command, title, told, kinds=None):
           "right")
     counts, seldom = sum((book.kinds for book in books), Counter()), 0
     for name, each in (kinds or {}).items():
-        print(f"  {name}, at least {LEAST} of each kind: " + ", ".join(f"{counts[kind]} {kind}" for kind in each))
-        seldom += sum(counts[kind] < LEAST for kind in each)
+        print(f"  {name}, at least {least} of each kind: " + ", ".join(f"{counts[kind]} {kind}" for kind in each))
+        seldom += sum(counts[kind] < least for kind in each)
     return count + spoilt + disagreeing(title, books) + seldom
 
 
@@ -130,24 +132,30 @@ def compare_rows(command):
 
 def compare_batches(command):
     runs = [each.run for each in (*steps.rows.rows(), *steps.cases.cases(), *steps.place_cases.cases())]
-    wrong = compare(command, "whole runs in batches", [in_batches(run, size) for run in runs for size in BATCHES])
-    in_several = [in_batches(run, size) for run in some_runs_with_messages(RUNS_WITH_MESSAGES) for size in BATCHES]
-    return wrong + compare(command, "random runs with messages in batches", in_several)
+    return compare(command, "whole runs in batches", [in_batches(run, size) for run in runs for size in BATCHES])
+
+
+def compare_random(command, part):
+    """How much is wrong with one in `part` of the random packets and runs."""
+    with_messages = RUNS_WITH_MESSAGES // part
+    in_several = [in_batches(run, size) for run in some_runs_with_messages(with_messages) for size in BATCHES]
+    return (compare(command, "random runs with messages in batches", in_several)
+            + compare(command, "random", list(some_scripts(RANDOM_PACKETS // part)))
+            + compare(command, "random, with translation", list(some_translated(TRANSLATED_PACKETS // part)))
+            + compare(command, "random, on several interfaces", list(some_placed(PLACED_PACKETS // part)),
+                      place_kinds.COUNTED, least_of(part, LEAST))
+            + compare(command, "random, with messages", list(some_with_messages(with_messages))))
 
 
 def model_alone():
     sys.exit(bool(compare_model()))
 
 
-def main():
+def main(part=PART):
     command = building.answers("commits")
-    wrong = compare_model() + compare_rows(command) + compare_batches(command)
-    wrong += compare(command, "random", list(some_scripts(RANDOM_PACKETS)))
-    wrong += compare(command, "random, with translation", list(some_translated(TRANSLATED_PACKETS)))
-    wrong += compare(command, "random, on several interfaces", list(some_placed(PLACED_PACKETS)), place_kinds.COUNTED)
-    wrong += compare(command, "random, with messages", list(some_with_messages(RUNS_WITH_MESSAGES)))
+    wrong = compare_model() + compare_rows(command) + compare_batches(command) + compare_random(command, part)
     few = [*translation_scripts.rows(), *place_scripts.rows()][::REFUSED_STEP]
     refused = [script for script, _ in (*cases.rows(), *few)]
     refused += [*some_scripts(REFUSED_PACKETS), *some_translated(REFUSED_PACKETS), *some_placed(REFUSED_PACKETS)]
     refused += [script for row, script in told_in_batches() if row.run.name in REFUSED_RUNS]
-    sys.exit(not ends_lawfully("commits", command, b"".join(map(script_bytes, refused))) or bool(wrong))
+    sys.exit(not end_lawfully("commits", command, list(map(script_bytes, refused)), part) or bool(wrong))

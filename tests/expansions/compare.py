@@ -23,25 +23,33 @@ from itertools import repeat
 
 import building
 import rulesets.cases
-from answering import answers_of
+from answering import answers_of, least_of
 from expansions import expected, interface_kinds, model
 from expansions.cases import EM0, RUNS, SEED, Text, each_value
 from expansions.hostile import hostile
 from expansions.hosts import interface_of
 from expansions.random_texts import random_texts
-from faults.command import ends_lawfully
+from faults.command import end_lawfully
 from rulesets.model import worded
 
 MOST_SHOWN = 10
 SHOWN_BYTES, SHOWN_LINES = 500, 4
 RANDOM_TEXTS = 18000
+# one in so many of the texts that are made is compared, and of the allocations one is refused; all of them with `--all`
+PART = 9
+# hostile texts that are answered within seconds; the others are compared with `--all`
+QUICK = ("as long a word as may have a suffix", "a longer word with a suffix", "forty doublings of what is no word",
+         "15 anchors of a hundred round a fault", "16 anchors of a hundred round none",
+         "16 anchors of a hundred round none and a rule", "16 anchors of a hundred round a rule",
+         "16 anchors of a hundred round a fault")
 # rules of which the dump is asked for, and not only their number
 MOST_DUMPED = 4096
 # texts that the program gets at once
 CHUNK = 500
 # longer texts of the folder aren't changed at random
 LONG_TEXT = 1200
-# what some random texts have to hold; those for several interfaces also what interface_kinds.py names, each so often
+# what some random texts have to hold; of all of them those for several interfaces also what interface_kinds.py names, each
+# so often
 LEAST = 10
 PROMISED = ("a label", "an empty label", "a label in an anchor", "a label in copies of an anchor",
             "a label behind one in copies of an anchor")
@@ -192,21 +200,23 @@ def compare_model():
     return len(wrong)
 
 
-def too_seldom(kinds):
+def too_seldom(kinds, least):
     """Prints how many random texts are of each kind, and answers of which ones there are too few."""
     for names in (PROMISED, interface_kinds.COUNTED):
         print("random texts: " + ", ".join(f"{kind} {kinds[kind]}" for kind in names))
     missing = [kind for kind in PROMISED if not kinds[kind]]
-    missing += [kind for kind in interface_kinds.COUNTED if kinds[kind] < LEAST]
+    missing += [kind for kind in interface_kinds.COUNTED if kinds[kind] < least]
     if missing:
-        print(f"random texts: not seen, or fewer than {LEAST} times: {', '.join(missing)}")
+        print(f"random texts: not seen, or fewer than {least} times: {', '.join(missing)}")
     return missing
 
 
-def compare(command):
-    """How many texts have another answer of the program, plus the number of kinds with too few random texts."""
+def compare(command, part):
+    """How many texts have another answer of the program, plus the number of kinds with too few random texts. Of all that
+    are made one in `part` is asked."""
     files, rows = with_answers()
-    hard, made, drawn = hostile(), [*changed(files), *each_value()], list(random_texts(RANDOM_TEXTS))
+    hard = [text for text in hostile() if part == 1 or text.name in QUICK]
+    made, drawn = [*changed(files), *each_value()][::part], list(random_texts(RANDOM_TEXTS // part))
     wrong, kinds = differences(command, files + rows), Counter()
     for text in hard:
         wrong += differences(command, [text])
@@ -220,20 +230,21 @@ def compare(command):
             kinds += seen
     show(wrong)
     print(f"{len(files) + len(rows) + len(hard) + len(made) + len(drawn)} texts: {len(wrong)} differ from the program")
-    return len(wrong) + len(too_seldom(kinds))
+    return len(wrong) + len(too_seldom(kinds, least_of(part, LEAST)))
 
 
-def refuse_memory(command):
+def refuse_memory(command, part):
+    """Whether the program ends lawfully where one in `part` allocations is refused."""
     texts = [Text(name, (expected.TEXTS / f"{name}.conf").read_bytes(),
                   tuple(map(interface_of, words[::2], words[1::2]))) for name, *words in SHORT_OF_MEMORY]
-    return ends_lawfully("expansions", command, b"".join(map(record, texts)))
+    return end_lawfully("expansions", command, list(map(record, texts)), part)
 
 
 def model_alone():
     sys.exit(bool(compare_model()))
 
 
-def main():
+def main(part=PART):
     command = building.answers("expansions")
-    wrong = compare_model() + compare(command)
-    sys.exit(not refuse_memory(command) or bool(wrong))
+    wrong = compare_model() + compare(command, part)
+    sys.exit(not refuse_memory(command, part) or bool(wrong))

@@ -1,11 +1,12 @@
 #!/usr/bin/env python3
 """Runs a command once for each fault at each of its calls of some kinds, and judges each run.
 
-    run.py [--judge MODULE] [--calls] COMMAND WORDS.. [< INPUT]
+    run.py [--judge MODULE] [--calls] [--step N] COMMAND WORDS.. [< INPUT]
 
-The judge says which kinds: allocations, reads and writes, or threads. It prints how many runs ended each way, and exits
-with 1 where one ended in an unlawful way, and with 2 where no fault was reached. A word for a file that the command
-writes, as the judge tells, stands for a new file in each run; no file of that name is made. So does a word for a peer.
+The judge says which kinds: allocations, reads and writes, or threads. With `--step` of the calls of a kind each Nth one
+meets its faults, from the first one on, and else each. It prints how many runs ended each way, and exits with 1 where one
+ended in an unlawful way, and with 2 where no fault was reached. A word for a file that the command writes, as the judge
+tells, stands for a new file in each run; no file of that name is made. So does a word for a peer.
 """
 
 import argparse
@@ -94,8 +95,9 @@ def shown_files(files):
                    f"\n  a file of {len(text)} bytes, the last ones {text[-40:]!r}" for text in files)
 
 
-def run(command, source, judge):
-    """Runs all faults: the calls of each target, the number of runs by ending, the unlawful ones in words."""
+def run(command, source, judge, step=1):
+    """Runs all faults of each `step`th call: the calls of each target, the number of runs by ending, the unlawful ones in
+    words."""
     with tempfile.TemporaryDirectory() as folder:
         places = judge.places(command) if hasattr(judge, "places") else {}
         reference = judge.reference(command) if hasattr(judge, "reference") else command
@@ -104,7 +106,7 @@ def run(command, source, judge):
         targets = [target for target in judge.TARGETS if not target.file or target.file in places]
         calls = count_calls(trial, targets, same_by(judge))
         faults = [Fault(target, deed, number) for target in targets for deed in target.deeds
-                  for number in range(1, calls[target] + 1)]
+                  for number in range(1, calls[target] + 1, step)]
         slow = []
         with ThreadPoolExecutor(os.cpu_count()) as pool:
             results = list(pool.map(lambda fault: judged(trial, judge, fault, slow), faults))
@@ -121,6 +123,7 @@ def main():
     parser = argparse.ArgumentParser(description="Runs a command with a fault at each call.")
     parser.add_argument("--judge", default="replay", help="the module that judges the runs")
     parser.add_argument("--calls", action="store_true", help="print the number of calls of each kind")
+    parser.add_argument("--step", type=int, default=1, help="of the calls of each kind, which ones meet faults")
     parser.add_argument("command", nargs=argparse.REMAINDER, help="the command and its words")
     words = parser.parse_args()
     if not words.command:
@@ -132,7 +135,7 @@ def main():
         source = Path(folder) / "input"
         source.write_bytes(sys.stdin.buffer.read())
         try:
-            calls, endings, unlawful = run(words.command, source, judge)
+            calls, endings, unlawful = run(words.command, source, judge, words.step)
         except OSError as error:
             parser.exit(2, f"{error}\n")
     if words.calls:

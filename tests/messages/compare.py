@@ -16,6 +16,7 @@ import subprocess
 import sys
 from collections import Counter
 from concurrent.futures import ProcessPoolExecutor
+from itertools import islice
 
 import building
 from answering import TIME_LIMIT, answers_of, differing, place_of_difference, show_lines
@@ -29,6 +30,8 @@ from tracking.model import Peer
 
 # how many bytes of a message are changed by one process
 PLACES = 40
+# one in so many of the lists and texts is compared that aren't written out, and all of them with `--all`
+PART = 9
 
 
 # Events
@@ -109,9 +112,9 @@ def show_messages(origin, packets, expected, seen):
     show_lines(place, expected, seen)
 
 
-def compare_lists(title, lists):
-    """How many lists of events give other messages."""
-    lists = list(lists)
+def compare_lists(title, lists, part):
+    """How many lists of events give other messages, of one in `part`."""
+    lists = list(islice(lists, 0, None, part))
     expected = [[message.text() for message in model.whole(origin, packets)] for origin, packets in lists]
     seen = answers_of(building.answers("events"), [list_bytes(origin, packets) for origin, packets in lists])
     count = differing(((*each, messages, lines) for each, messages, lines in zip(lists, expected, seen)), show_messages)
@@ -149,24 +152,25 @@ def compared(command, asked):
     return count, Counter(next(kind for kind in check.TEXT_KINDS if answer.startswith(kind)) for answer in expected)
 
 
-def compare_bytes(command, place, start):
+def compare_bytes(command, part, place, start):
     """For one of the five messages, of which the bytes from start on are set to each value."""
     text = bare(five_messages()[place])
-    return compared(command, list(texts.with_each_byte(text, range(start, min(start + PLACES, len(text))))))
+    made = texts.with_each_byte(text, range(start, min(start + PLACES, len(text))))
+    return compared(command, list(islice(made, 0, None, part)))
 
 
-def compare_kind(command, kind):
-    return compared(command, list(texts.KINDS_OF_TEXTS[kind]()))
+def compare_kind(command, part, kind):
+    return compared(command, list(islice(texts.KINDS_OF_TEXTS[kind](), 0, None, part)))
 
 
-def compare_texts(command):
-    """How many of all texts are answered otherwise."""
+def compare_texts(command, part):
+    """How many of one in `part` of all texts are answered otherwise."""
     pieces = [(place, start) for place, message in enumerate(five_messages())
               for start in range(0, len(bare(message)), PLACES)]
     with ProcessPoolExecutor(os.cpu_count()) as pool:
-        others = {kind: [pool.submit(compare_kind, command, kind)]
+        others = {kind: [pool.submit(compare_kind, command, part, kind)]
                   for kind in texts.KINDS_OF_TEXTS if kind != texts.CHANGED}
-        found = {texts.CHANGED: [pool.submit(compare_bytes, command, *piece) for piece in pieces], **others}
+        found = {texts.CHANGED: [pool.submit(compare_bytes, command, part, *piece) for piece in pieces], **others}
         results = {kind: [each.result() for each in several] for kind, several in found.items()}
     for kind, several in results.items():
         counts = sum((counts for _, counts in several), Counter())
@@ -193,7 +197,7 @@ def model_alone():
     check.main()
 
 
-def main():
+def main(part=PART):
     command = building.answers("texts")
-    count = compare_lists("random lists", random_lists()) + compare_lists("random runs", run_lists())
-    sys.exit(bool(count + compare_written(command) + compare_texts(command)))
+    count = compare_lists("random lists", random_lists(), part) + compare_lists("random runs", run_lists(), part)
+    sys.exit(bool(count + compare_written(command) + compare_texts(command, part)))

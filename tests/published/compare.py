@@ -11,8 +11,8 @@ from collections import Counter
 from itertools import islice
 
 import building
-from answering import differing, place_of_difference, show_lines
-from faults.command import ends_lawfully
+from answering import differing, least_of, place_of_difference, show_lines
+from faults.command import end_lawfully
 from faults.published import ending_of
 from faults.trial import Unlawful
 from published import cases, written
@@ -31,9 +31,11 @@ DEMANDED = {"random": {reach.BOUND_BY_BOUND: 80, reach.BOUND_BY_FLOATING: 10, re
                        reach.MOVED_BESIDE: 40, reach.NOT_MOVED: 10, reach.LEAST_REMOVED: 60, reach.LEAST_PURGED: 80},
             "crowded": {CROWDED: COUNTS["crowded"], reach.MADE_BESIDE: 5000, reach.TOUCHED_BESIDE: 100,
                         reach.MOVED_BESIDE: 15}}
-# with how many random scripts each allocation is refused, besides those that are written out; and how many scripts the
-# program is handed at once then
-REFUSED, AT_ONCE = 10, 6
+# with how many random scripts each allocation is refused, besides those that are written out
+REFUSED = 10
+# one in so many of the random scripts is run, but one of each kind at least, and of the allocations one is refused; all of
+# them with `--all`
+PART = 5
 
 
 def show(script, expected, seen):
@@ -43,17 +45,18 @@ def show(script, expected, seen):
     show_lines(place, expected, seen)
 
 
-def compare_reach(title, counts):
-    """How much the scripts of a kind come upon less often than demanded."""
-    demanded = DEMANDED.get(title, {})
+def compare_reach(title, counts, part):
+    """How much the scripts of a kind come upon less often than demanded of all of them, of which one in `part` is run."""
+    demanded = {name: least_of(part, count) for name, count in DEMANDED.get(title, {}).items()}
     seldom = reach.seldom(counts, demanded)
     for words in (*filter(None, [reach.told(counts, demanded)]), *(f"too seldom: {words}" for words in seldom)):
         print(f"  {words}")
     return len(seldom)
 
 
-def compare(command, title, scripts):
-    """How many scripts are answered otherwise than they may be, and how much they come upon too seldom."""
+def compare(command, title, scripts, part=1):
+    """How many scripts are answered otherwise than they may be, and how much they come upon too seldom. They are one in
+    `part` of all scripts of their kind."""
     found, counts = [], Counter()
     for script, seen in zip(scripts, answers(command, scripts)):
         expected = Expected(script)
@@ -66,7 +69,7 @@ def compare(command, title, scripts):
     wrong = differing(found, show)
     print(f"{title}: {len(found)} scripts with {counts['publications']} publications and {counts['looks']} looks; "
           f"{counts['fixed']} leave no choice, and {counts['later']} are at a later table than need be; {wrong} differ")
-    return wrong + compare_reach(title, counts)
+    return wrong + compare_reach(title, counts, part)
 
 
 def wrong_written():
@@ -121,16 +124,12 @@ def refused_scripts():
     return written_scripts() + list(islice(exact, REFUSED))
 
 
-def are_refused_lawfully(command):
-    """Of some scripts at a time whether the program ends lawfully with each allocation and each thread refused."""
-    scripts = refused_scripts()
-    for start in range(0, len(scripts), AT_ONCE):
-        yield ends_lawfully("published", command, b"".join(map(script_bytes, scripts[start:start + AT_ONCE])))
-
-
-def main():
+def main(part=PART):
     command = building.run_answers("published")
     wrong = compare_model() + compare(command, "written out", written_scripts())
     for kind, count in COUNTS.items():
-        wrong += compare(command, kind, cases.scripts(kind, count))
-    sys.exit(bool(wrong) or not all(list(are_refused_lawfully(command))))
+        parts = min(part, count)
+        wrong += compare(command, kind, cases.scripts(kind, count // parts), parts)
+    refused = list(map(script_bytes, refused_scripts()))
+    # threads are refused with the allocations
+    sys.exit(not end_lawfully("published", command, refused, part) or bool(wrong))

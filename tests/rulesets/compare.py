@@ -7,15 +7,23 @@ The answers to the texts of the folder are written beside them, and the model ha
 these is answered by the model.
 """
 
+import os
 import subprocess
 import sys
+from concurrent.futures import ThreadPoolExecutor
+from itertools import chain
 
 import building
 from faults.command import ends_lawfully
 from rulesets import model
 from rulesets.cases import TEXTS, Ruleset, beginnings, changed, each_byte, each_word, large, short, spelled, written
 
-TIME_LIMIT = 120
+TIME_LIMIT = 600
+# one in so many of the texts that are made is compared, and all of them with `--all`, as are the other large texts
+PART = 9
+QUICK = ("one large word", "a large value", "a large host name", "a large number")
+# texts that the program gets at once
+CHUNK = 1000
 MOST_SHOWN = 10
 SHOWN_BYTES = 400
 # texts for which each allocation is refused: what they hold covers the statements, and two are faulty
@@ -45,14 +53,20 @@ def model_answer(text):
 
 
 def with_answers():
-    """The texts whose answers are written."""
-    return [*written(), *short(), *spelled(), *large()]
+    """The texts whose answers are written, but for large ones."""
+    return [*written(), *short(), *spelled()]
 
 
-def made_of(files):
-    """The texts that are answered by the model."""
+def made_of(files, part):
+    """One in `part` of the texts that are answered by the model."""
     without = [*each_byte(), *each_word(), *beginnings(files), *changed(files)]
-    return [Ruleset(name, text, model_answer(text)) for name, text, _ in without]
+    return [Ruleset(name, text, model_answer(text)) for name, text, _ in without[::part]]
+
+
+def chunks_of(rulesets, part):
+    """These texts as the program gets them, and large ones one by one."""
+    yield from ([text] for text in large() if part == 1 or text.name in QUICK)
+    yield from (rulesets[start:start + CHUNK] for start in range(0, len(rulesets), CHUNK))
 
 
 def model_faults(rulesets):
@@ -70,18 +84,20 @@ def show(wrong):
 
 def compare_model():
     """How many written answers the model doesn't give."""
-    rulesets = with_answers()
+    rulesets = [*with_answers(), *large()]
     wrong = model_faults(rulesets)
     show(wrong)
     print(f"{len(rulesets)} written answers: {len(wrong)} differ from the model")
     return len(wrong)
 
 
-def compare(command):
-    """How many texts the program answers otherwise."""
-    rulesets = with_answers() + made_of(written())
-    wrong = [(*ruleset, seen) for ruleset, seen in zip(rulesets, answers_of(command, rulesets))
-             if seen != ruleset.answer]
+def compare(command, part):
+    """How many texts the program answers otherwise, with one in `part` of those that are made."""
+    chunks = list(chunks_of(with_answers() + made_of(written(), part), part))
+    with ThreadPoolExecutor(os.cpu_count()) as pool:
+        answers = chain.from_iterable(pool.map(lambda some: answers_of(command, some), chunks))
+        rulesets = list(chain.from_iterable(chunks))
+        wrong = [(*ruleset, seen) for ruleset, seen in zip(rulesets, answers) if seen != ruleset.answer]
     show(wrong)
     print(f"{len(rulesets)} texts: {len(wrong)} differ from the program")
     return len(wrong)
@@ -96,7 +112,7 @@ def model_alone():
     sys.exit(bool(compare_model()))
 
 
-def main():
+def main(part=PART):
     command = building.answers("rulesets")
-    wrong = compare_model() + compare(command)
+    wrong = compare_model() + compare(command, part)
     sys.exit(not refuse_memory(command) or bool(wrong))

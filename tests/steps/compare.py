@@ -15,9 +15,9 @@ from collections import Counter
 from itertools import chain, islice, repeat
 
 import building
-from answering import SHOWN, answers_of, differing, place_of_difference, show_lines
+from answering import SHOWN, answers_of, differing, least_of, place_of_difference, show_lines
 from captures.model import Refused
-from faults.command import ends_lawfully
+from faults.command import end_lawfully
 from steps import (interface_cases, place_cases, place_kinds, place_runs, random_runs, tap_cases, tap_kinds,
                    translation_kinds, translation_runs, way_cases)
 from steps.cases import cases
@@ -30,11 +30,13 @@ from steps.settings import plain, some_settings
 from steps.run import INSIDE, INTERFACE, words_of
 
 RANDOM_PACKETS, TRANSLATED_PACKETS = 20000, 84000
+# one in so many of the random packets is compared, and of the allocations one is refused; all of them with `--all`
+PART = 7
 # one packet in three is in a run on several interfaces
 PLACED_STEP = 3
 # how many packets there are in runs with settings for each `of` packets in runs without any
 SETTLED, OF = 7, 10
-# how often what is counted of packets has to come up at least, also of those on several interfaces, and how many runs
+# how often what is counted of all packets has to come up at least, also of those on several interfaces, and how many runs
 # are compared at once
 LEAST, LEAST_PLACED, CHUNK = 100, 20, 200
 # of the cases each such one is run with each allocation refused
@@ -181,9 +183,11 @@ def translated_runs(packets, settings):
     return chain(translation_runs.runs(packets - placed, settings), place_runs.runs(placed, settings))
 
 
-def compare_random(command):
-    """How many random runs differ, and whether too few packets visit rules that have no room."""
-    runs = [*random_runs.runs(RANDOM_PACKETS), *random_runs.runs(settled_of(RANDOM_PACKETS), some_settings)]
+def compare_random(command, part):
+    """How many random runs differ, of one in `part` of the packets, and whether too few of these visit rules that have no
+    room."""
+    packets = RANDOM_PACKETS // part
+    runs = [*random_runs.runs(packets), *random_runs.runs(settled_of(packets), some_settings)]
     expected, counts, full = [], Counter(), 0
     for lines, steps in map(told_by_model, runs):
         expected.append(lines)
@@ -193,11 +197,12 @@ def compare_random(command):
     shares = ", ".join(f"{share} {reason}" for reason, share in sorted(counts.items()))
     print(f"{len(runs)} random runs: {count} differ; of {counts.total()} packets {shares}; {full} visit a rule that has no "
           "room")
-    return count + (full < LEAST)
+    return count + (full < least_of(part, LEAST))
 
 
-def compare_translated(command, packets):
-    """How many random runs with translation and on several interfaces differ, and what else is wrong with them."""
+def compare_translated(command, packets, part=1):
+    """How many random runs with translation and on several interfaces differ, and what else is wrong with them. The
+    packets are one in `part` of those of which each kind has to come up so often."""
     settled = settled_of(packets)
     runs = chain(translated_runs(packets, plain), translated_runs(settled, some_settings))
     counts, faults, differ = Counter(), [], 0
@@ -210,9 +215,9 @@ def compare_translated(command, packets):
     print(f"{packets} packets in random runs with translation, and {settled} in those with settings, a third of both "
           f"on several interfaces: {differ} runs differ, {len(faults)} packets are written wrongly", *faults[:SHOWN],
           sep="\n  ")
-    seldom = (compare_counts(counts, translation_kinds.COUNTED, LEAST)
-              + compare_counts(counts, place_kinds.COUNTED, LEAST_PLACED)
-              + compare_counts(counts, tap_kinds.COUNTED, LEAST_PLACED))
+    seldom = (compare_counts(counts, translation_kinds.COUNTED, least_of(part, LEAST))
+              + compare_counts(counts, place_kinds.COUNTED, least_of(part, LEAST_PLACED))
+              + compare_counts(counts, tap_kinds.COUNTED, least_of(part, LEAST_PLACED)))
     return differ + len(faults) + seldom
 
 
@@ -247,11 +252,11 @@ def model_alone():
     sys.exit(bool(compare_model()))
 
 
-def main():
+def main(part=PART):
     command, written = building.answers("steps"), written_out()
     wrong = compare_model() + sum(compare_written(title, command, each) for title, each in written.items())
-    wrong += compare_random(command) + compare_translated(command, TRANSLATED_PACKETS)
-    refused = b"".join(run_bytes(each.run) for title, each_case in written.items() if title != "whole runs"
-                       for each in each_case[::REFUSED_STEP])
+    wrong += compare_random(command, part) + compare_translated(command, TRANSLATED_PACKETS // part, part)
+    refused = [run_bytes(each.run) for title, each_case in written.items() if title != "whole runs"
+               for each in each_case[::REFUSED_STEP]]
     # its answers are cut like those of the expansion
-    sys.exit(not ends_lawfully("expansions", command, refused) or bool(wrong))
+    sys.exit(not end_lawfully("expansions", command, refused, part) or bool(wrong))

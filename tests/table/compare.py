@@ -8,8 +8,10 @@ it is asked again. The model has to give the answers written by hand too.
 import subprocess
 import sys
 from collections import Counter
+from itertools import chain, islice
 
 import building
+from answering import least_of
 from faults.command import ends_lawfully
 from table import reach
 from table.kinds import all_kinds
@@ -20,6 +22,9 @@ from table.sharing import sharing_lists
 
 LISTS = 24
 CALLS = 2500
+# one in so many of the lists is compared that aren't written by hand, and all of them with `--all`; and of the allocations
+# one in so many is refused, which goes through a long list each time
+PART, REFUSED_PART = 5, 21
 # the calls that are told, with their answers
 CALLS_TOLD = (("make", "done"), ("make", "key taken"), ("make", "full"), ("touch", "done"), ("touch", "key taken"),
               ("settle", "done"), ("purge", "done"), ("rule_room", "yes"), ("rule_room", "no"))
@@ -60,8 +65,7 @@ def differing(command, lines, expected):
 
 
 def named_lists():
-    """All lists that the model answers, each with the name of its kind."""
-    yield "of refusals", refusals()
+    """All lists that the model answers, each with the name of its kind, but for those of refusals."""
     for writer in random_lists(LISTS, CALLS):
         yield "random", writer
     yield from all_kinds()
@@ -90,19 +94,20 @@ def compare_program(command):
     return compare_rows("program", lambda row: differing(command, row.lines, row.answers))
 
 
-def compare_reach(counts):
-    """How much comes up less often than demanded."""
+def compare_reach(counts, part):
+    """How much comes up less often than demanded, with one in `part` of the lists."""
     print("\n".join(reach.told(counts, names) for names in (reach.OF_LOOK_UPS, reach.OF_CHANGES)))
-    seldom = reach.seldom(counts, DEMANDED)
+    seldom = reach.seldom(counts, {name: least_of(part, count) for name, count in DEMANDED.items()})
     print(*(f"too seldom: {words}" for words in seldom), sep="\n", end="\n" if seldom else "")
     return len(seldom)
 
 
-def compare(command):
-    """How many lists differ, and how much they reach too seldom."""
+def compare(command, part):
+    """How many of the lists differ, and how much they reach too seldom, with one in `part` of them."""
     count = 0
     kinds, calls, reached = Counter(), Counter(), Counter()
-    for place, (kind, writer) in enumerate(named_lists()):
+    lists = chain([("of refusals", refusals())], islice(named_lists(), 0, None, part))
+    for place, (kind, writer) in enumerate(lists):
         lines, expected = writer.lines, writer.answers
         differs = differing(command, lines, expected)
         kinds[kind] += 1
@@ -115,14 +120,15 @@ def compare(command):
     changes = ", ".join(f"{calls[call]} {' '.join(call)}" for call in CALLS_TOLD)
     print(f"{kinds.total()} lists of calls to the table: {count} differ; of {calls.total()} calls {changes}")
     print(", ".join(f"{number} {kind}" for kind, number in kinds.items()))
-    return count + compare_reach(reached)
+    return count + compare_reach(reached, part)
 
 
 def model_alone():
     sys.exit(bool(compare_model()))
 
 
-def main():
+def main(part=PART):
     command = building.answers("table")
-    wrong = compare_model() + compare_program(command) + compare(command)
-    sys.exit(not ends_lawfully("table", command, text_of(refusals().lines)) or bool(wrong))
+    wrong = compare_model() + compare_program(command) + compare(command, part)
+    step = 1 if part == 1 else REFUSED_PART
+    sys.exit(not ends_lawfully("table", command, text_of(refusals().lines), step) or bool(wrong))
