@@ -42,19 +42,11 @@ def rt(verb, folder):
     building.ran(["rt", verb], folder)
 
 
-def used_by(crate, named):
-    """A crate and all that it stands on, each once: what it names, and what that names."""
-    used = [crate]
-    for name in used:
-        used.extend(other for other in named.get(name, ()) if other not in used)
-    return used
-
-
 def build(folder, program):
     """Makes a repository of the built crates and the program, and answers the program that is built of it."""
     rt("lib", building.CRATES / program.highest)
     named = building.named_crates()
-    used = used_by(program.highest, named)
+    used = building.used_by(program.highest, named)
     lines = [f"{name}: {' '.join(libraries)}" for name, libraries in named.items() if name in used]
     (folder / "crates.txt").write_text("\n".join([*lines, f"{program.name}: {' '.join(used)}\n"]))
     copy(building.ROOT / "HANDLES", folder)

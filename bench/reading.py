@@ -3,9 +3,9 @@
 
     reading.py [PROGRAM WORDS..]
 
-Takes the program of the crate answers by its word `rulesets` unless it is given another. It prints for each kind of
-text, at lengths that double, the nanoseconds and the bytes of memory that a byte of text takes. Both should stay as
-they are.
+Takes the program answers by its word `rulesets` unless it is given another. It prints for each kind of text, at lengths
+that double, the nanoseconds and the bytes of memory that a byte of text takes. Both should stay as they are. The program
+answers isn't proved, and some ten times slower than one that is.
 """
 
 import sys

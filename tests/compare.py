@@ -8,7 +8,7 @@ as there are processors. What it prints comes whole, in the order of the words, 
 took. The status is 1 if one of them failed.
 
 With `--model` the models alone are compared with the answers written by hand, and no program is needed. With `--all` all
-random cases are compared, also those that are left out by default since they take long.
+random cases are compared, also those that are left out by default since a program that isn't proved is slow.
 """
 
 import argparse
@@ -66,9 +66,8 @@ def build(words):
     """Builds what these comparisons need, so that none of them has to while the others run."""
     if set(words) & set(OF_PFREPLAY):
         building.pfreplay()
-    for name, asking in (("answers", OF_ANSWERS), ("run_answers", OF_RUNS)):
-        if set(words) & set(asking):
-            building.built(name)
+    building.built(*(name for name, asking in (("answers", OF_ANSWERS), ("run_answers", OF_RUNS))
+                     if set(words) & set(asking)))
 
 
 def compare(words, asked):

@@ -204,6 +204,13 @@ ALLOCATES(void *, aligned_alloc, (size_t alignment, size_t size), NULL, NULL, re
 ALLOCATES(int, posix_memalign, (void **memory, size_t alignment, size_t size), ENOMEM, ENOMEM,
           real_posix_memalign(memory, alignment, size))
 
+// For a program that takes its memory from its address checks, past these functions, and asks here before it does
+// (allocations.c).
+bool refuses_allocation(void)
+{
+    return deed_of(ALLOCATION, -1) != NOTHING;
+}
+
 static size_t one_of(size_t size)
 {
     return size < 1 ? size : 1;
