@@ -19,7 +19,7 @@ PROGRAMS = TESTS / "programs"
 CRATES_LIST, PROGRAMS_LIST = ROOT / "crates.txt", PROGRAMS / "programs.txt"
 # what a crate is made of
 PARTS = ("src", "specs", "proofs")
-# the C code by which faults.c refuses allocations of a program that isn't proved
+# the C code by which faults.c refuses allocations of a program that isn't proved, and a check that fails ends it by a signal
 ALLOCATIONS = TESTS / "faults" / "allocations.c"
 # where such programs are kept
 MADE = ROOT / "out" / "unproved"
