@@ -201,7 +201,7 @@ impl<'a, R: Source, S: Sink> Feeding<'a, R, S> {
         drop(trace.close(rt));
         match result {
             Ok(()) => {
-                *last = Some(book);
+                drop(last.replace(book));
                 feeding
             }
             Err(_) => {
@@ -233,11 +233,15 @@ impl<'a, R: Source, S: Sink> Feeding<'a, R, S> {
         ensures concluded { Finishes S.told S.written S.failures self.old last self.new.sinks.now result }
     {
         if let Some(stop) = self.stop() {
+            drop(last);
             return Err(stop);
         }
-        match (last, self.end) {
-            (Some(book), Some(end)) => conclude(book, end, self.channel, self.sinks),
-            _ => unreachable!(),
+        match last {
+            Some(book) => match self.end {
+                Some(end) => conclude(book, end, self.channel, self.sinks),
+                None => unreachable!(),
+            },
+            None => unreachable!(),
         }
     }
 }

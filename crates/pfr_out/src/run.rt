@@ -59,12 +59,24 @@ fn replay_captures<H: AllocGlobal + Threads + Wait + Sync, R: Source, S: Sink, G
 {
     let headers = match merge.headers(rt.alloc()) {
         Ok(headers) => headers,
-        Err(_) => return Err(Stop::Memory(0)),
+        Err(_) => {
+            drop(channel);
+            drop(merge);
+            drop(book);
+            return Err(Stop::Memory(0));
+        }
     };
     match sinks.write_headers(headers.as_slice()) {
         Ok(()) => {}
-        Err(output) => return Err(Stop::Write(output, 0)),
+        Err(output) => {
+            drop(headers);
+            drop(channel);
+            drop(merge);
+            drop(book);
+            return Err(Stop::Write(output, 0));
+        }
     }
+    drop(headers);
     let address = source_of(book.job());
     let feeding = Feeding {
         alloc: rt.alloc(),
@@ -119,11 +131,17 @@ pub fn replay_job<H: AllocGlobal + Threads + Wait + Sync, R: Source, S: Sink, G:
     let alloc = rt.alloc();
     let merge = match sources.open(alloc) {
         Ok(merge) => merge,
-        Err(refusal) => return Err(stop_for(refusal, 0)),
+        Err(refusal) => {
+            drop(job);
+            return Err(stop_for(refusal, 0));
+        }
     };
     let book = match book_of(alloc, job) {
         Ok(book) => book,
-        Err(_) => return Err(Stop::Memory(0)),
+        Err(_) => {
+            drop(merge);
+            return Err(Stop::Memory(0));
+        }
     };
     let channel = Channel::new(alloc, settings.form);
     replay_captures(rt, book, merge, sources, settings, channel, sinks, gate)

@@ -99,16 +99,40 @@ fn replay_words<
     meter: &M,
 ) -> Result<u8, Failure<'a>> {
     let outputs = outputs_of(rt.alloc(), asked)?;
+    let ended = replay_to(rt, asked, outputs.as_slice(), input, out, err, meter);
+    drop(outputs);
+    ended
+}
+
+/// Does so with the names of all outputs.
+fn replay_to<
+    'a,
+    R: Files + Net + AllocGlobal + Threads + Wait + Sync,
+    I: Read + Drop,
+    O: Write + Copy,
+    E: Write,
+    M: Meter,
+>(
+    rt: &R,
+    asked: &RunWords<'a>,
+    outputs: &[&'a str],
+    input: I,
+    out: &mut O,
+    err: &mut E,
+    meter: &M,
+) -> Result<u8, Failure<'a>>
+    requires { outputs.now ≡ file_names asked.now.captures asked.now.outputs }
+{
     if repeats_input(asked.captures.as_slice()) {
         return Err(Failure::same_file(STANDARD));
     }
-    if let Some(name) = repeated(rt, asked, outputs.as_slice())? {
+    if let Some(name) = repeated(rt, asked, outputs)? {
         return Err(Failure::same_file(name));
     }
     // A fault of the ruleset is reported before any other file is touched.
     let job = job_of(rt, asked, err)?;
     let report = watched(rt, asked, job, input, *out, err, meter)?;
-    if has_standard(outputs.as_slice()) {
+    if has_standard(outputs) {
         return finish(&report, err);
     }
     finish(&report, out)
@@ -144,10 +168,17 @@ fn watched<
     err: &mut E,
     meter: &M,
 ) -> Result<Report, Failure<'a>> {
-    let watch = Watch::new(rt.alloc(), job.rules(), asked.warns)?;
-    let ended = metered(rt, asked, job, &watch, input, out, err, meter);
-    drop(watch);
-    ended
+    match Watch::new(rt.alloc(), job.rules(), asked.warns) {
+        Ok(watch) => {
+            let ended = metered(rt, asked, job, &watch, input, out, err, meter);
+            drop(watch);
+            ended
+        }
+        Err(refused) => {
+            drop(job);
+            Err(Failure::from(refused))
+        }
+    }
 }
 
 /// Does so under a watch, which says what there is to warn of.
@@ -199,10 +230,17 @@ fn replayed<
     gate: &G,
 ) -> Result<Report, Failure<'a>> {
     let addresses = asked.ways.link_addresses.as_slice();
-    let mut sources = sources(rt, asked.captures.as_slice(), addresses, input)?;
-    let ended = replayed_from(rt, asked, job, &mut sources, out, err, gate);
-    drop(sources);
-    ended
+    match sources(rt, asked.captures.as_slice(), addresses, input) {
+        Ok(mut sources) => {
+            let ended = replayed_from(rt, asked, job, &mut sources, out, err, gate);
+            drop(sources);
+            ended
+        }
+        Err(failure) => {
+            drop(job);
+            Err(failure)
+        }
+    }
 }
 
 /// Replays what these sources have by a job, and writes the outputs.
@@ -224,10 +262,17 @@ fn replayed_from<
 ) -> Result<Report, Failure<'a>>
     requires { length sources.old ≤ 8 }
 {
-    let mut sinks = sinks(rt, asked, out)?;
-    let ended = replayed_into(rt, asked, job, sources, &mut sinks, err, gate);
-    drop(sinks);
-    ended
+    match sinks(rt, asked, out) {
+        Ok(mut sinks) => {
+            let ended = replayed_into(rt, asked, job, sources, &mut sinks, err, gate);
+            drop(sinks);
+            ended
+        }
+        Err(failure) => {
+            drop(job);
+            Err(failure)
+        }
+    }
 }
 
 /// Replays what these sources have by a job into these sinks.

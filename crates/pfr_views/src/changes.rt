@@ -48,8 +48,13 @@ pub fn tell_changes<'a, R: Files + AllocGlobal, I: Read + Drop, O: Write, E: Wri
         return Err(Failure::same_file(STANDARD));
     }
     let old = with_ruleset(rt, asked, &asked.old, err)?;
-    let new = with_ruleset(rt, asked, &asked.new, err)?;
-    compare_ruled(rt, asked, old, new, input, out, meter)
+    match with_ruleset(rt, asked, &asked.new, err) {
+        Ok(new) => compare_ruled(rt, asked, old, new, input, out, meter),
+        Err(failure) => {
+            drop(old);
+            Err(failure)
+        }
+    }
 }
 
 /// Has two runs take the packets of captures, and prints what changes.
@@ -62,11 +67,21 @@ fn compare_ruled<'a, R: Files + AllocGlobal, I: Read + Drop, O: Write, M: Meter>
     out: &mut O,
     meter: &M,
 ) -> Result<u8, Failure<'a>> {
-    let sides = Sides {
-        before: old.side,
-        after: new.side,
-    };
-    compare_rules(rt, asked, sides, &old.rules, &new.rules, input, out, meter)
+    let Ruled {
+        side: before,
+        rules: old,
+        ..
+    } = old;
+    let Ruled {
+        side: after,
+        rules: new,
+        ..
+    } = new;
+    let sides = Sides { before, after };
+    let ended = compare_rules(rt, asked, sides, &old, &new, input, out, meter);
+    drop(new);
+    drop(old);
+    ended
 }
 
 /// A run with a ruleset. What is said of the ruleset's file goes to `err`.
@@ -92,9 +107,24 @@ fn with_ruleset<'a, R: Files + AllocGlobal, E: Write>(
 
 /// A run with a job, whose ruleset this text means.
 fn ruled_by<'a>(alloc: Global, text: &Prepared, job: Job) -> Result<Ruled, Failure<'a>> {
-    let rules = rules_of(alloc, text, job.rules())?;
-    let side = Side::new(alloc, job)?;
-    Ok(Ruled { side, rules })
+    match rules_of(alloc, text, job.rules()) {
+        Ok(rules) => with_rules(alloc, job, rules),
+        Err(failure) => {
+            drop(job);
+            Err(failure)
+        }
+    }
+}
+
+/// A run with a job, and its rules.
+fn with_rules<'a>(alloc: Global, job: Job, rules: Rules) -> Result<Ruled, Failure<'a>> {
+    match Side::new(alloc, job) {
+        Ok(side) => Ok(Ruled { side, rules }),
+        Err(refused) => {
+            drop(rules);
+            Err(Failure::from(refused))
+        }
+    }
 }
 
 /// Does so with the rules of each.
@@ -108,8 +138,17 @@ fn compare_rules<'a, R: Files + AllocGlobal, I: Read + Drop, O: Write, M: Meter>
     out: &mut O,
     meter: &M,
 ) -> Result<u8, Failure<'a>> {
-    let old = old.told(rt.alloc())?;
-    compare_told(rt, asked, sides, &old, new, input, out, meter)
+    match old.told(rt.alloc()) {
+        Ok(old) => {
+            let ended = compare_told(rt, asked, sides, &old, new, input, out, meter);
+            drop(old);
+            ended
+        }
+        Err(refused) => {
+            drop(sides);
+            Err(Failure::from(refused))
+        }
+    }
 }
 
 /// Does so with the old rules as they are told.
@@ -123,9 +162,18 @@ fn compare_told<'a, R: Files + AllocGlobal, I: Read + Drop, O: Write, M: Meter>(
     out: &mut O,
     meter: &M,
 ) -> Result<u8, Failure<'a>> {
-    let new = new.told(rt.alloc())?;
-    let told = BothTold { old, new: &new };
-    compare_captures(rt, asked, sides, told, input, out, meter)
+    match new.told(rt.alloc()) {
+        Ok(new) => {
+            let told = BothTold { old, new: &new };
+            let ended = compare_captures(rt, asked, sides, told, input, out, meter);
+            drop(new);
+            ended
+        }
+        Err(refused) => {
+            drop(sides);
+            Err(Failure::from(refused))
+        }
+    }
 }
 
 /// Opens the captures, has two runs take their packets, and prints what changes.
@@ -141,10 +189,17 @@ fn compare_captures<'a, R: Files + AllocGlobal, I: Read + Drop, O: Write, M: Met
     let captures = asked.captures.as_slice();
     let addresses = asked.ways.link_addresses.as_slice();
     begin_progress(rt, asked.progresses, captures, meter);
-    let mut sources = sources(rt, captures, addresses, input)?;
-    let ended = compare_sources(rt.alloc(), asked, sides, told, &mut sources, out, meter);
-    drop(sources);
-    ended
+    match sources(rt, captures, addresses, input) {
+        Ok(mut sources) => {
+            let ended = compare_sources(rt.alloc(), asked, sides, told, &mut sources, out, meter);
+            drop(sources);
+            ended
+        }
+        Err(failure) => {
+            drop(sides);
+            Err(failure)
+        }
+    }
 }
 
 /// Has two runs take the packets of sources, and prints what changes.

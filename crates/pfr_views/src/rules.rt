@@ -35,11 +35,13 @@ fn print_told<'a, R: Files + AllocGlobal, O: Write>(
     out: &mut O,
 ) -> Result<u8, Failure<'a>> {
     let counts = counts_of(rt, asked.counters, &told.rules)?;
-    let said = Said {
-        counts: counts.as_ref(),
-        shadows: told.shadows.as_slice(),
-    };
-    print_rules(rt.alloc(), &told.rules, said, out)
+    print_rules(
+        rt.alloc(),
+        &told.rules,
+        counts.as_ref(),
+        told.shadows.as_slice(),
+        out,
+    )
 }
 
 /// The rules of a ruleset, and those that are shadowed.
@@ -144,13 +146,15 @@ fn counters_refused<'a>(refused: Refused) -> Failure<'a> {
     }
 }
 
-/// Prints rules, with what is said of them.
-fn print_rules<'a, O: Write>(
+/// Prints rules, with what a run counted of them, if that is known, and by which others they are shadowed.
+fn print_rules<'a, 's, O: Write>(
     alloc: Global,
     rules: &Rules,
-    said: Said<'_>,
+    counts: Option<&'s RuleCounts>,
+    shadows: &'s [Shadow],
     out: &mut O,
 ) -> Result<u8, Failure<'a>> {
+    let said = Said { counts, shadows };
     let mut text = Vec::new(alloc);
     rules.append(alloc, &mut text, said)?;
     print(out, text.as_slice())
