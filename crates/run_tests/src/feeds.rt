@@ -160,6 +160,8 @@ fn streamed<
     );
     let batches = trace.batches.len();
     let shown = trace.close(rt).map(|table| table.len());
+    let (states, own, asked_rules) = (book.table().len(), book.own(), book.asked());
+    drop(book);
     let Listed {
         most_held,
         rested,
@@ -170,12 +172,12 @@ fn streamed<
         is_ok: outcome.is_ok(),
         outputs,
         rested,
-        states: book.table().len(),
+        states,
         shown,
         batches,
         most_held,
-        own: book.own(),
-        asked_rules: book.asked(),
+        own,
+        asked_rules,
     }
 }
 

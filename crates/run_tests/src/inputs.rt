@@ -20,7 +20,7 @@ static INSIDE: [Net; 1] = [Net {
 }];
 
 /// The header of a capture of raw IP packets.
-pub(crate) const HEADER: [u8; 24] = [
+const HEADER: [u8; 24] = [
     0xd4, 0xc3, 0xb2, 0xa1, 2, 0, 4, 0, 0, 0, 0, 0, 0, 0, 0, 0, 0, 0, 4, 0, 101, 0, 0, 0,
 ];
 
@@ -90,7 +90,7 @@ pub(crate) fn book(alloc: Global, rules: &[u8]) -> Result<Book, AllocError>
 }
 
 /// The sink of the packets of a run of one capture.
-pub(crate) fn only_sink<S: Drop>(alloc: Global, sink: S) -> Result<PacketSinks<S>, AllocError> {
+fn only_sink<S: Drop>(alloc: Global, sink: S) -> Result<PacketSinks<S>, AllocError> {
     let mut sinks = Vec::new(alloc);
     sinks.push(sink)?;
     Ok(PacketSinks::new(sinks))

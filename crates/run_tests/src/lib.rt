@@ -10,8 +10,6 @@ mod feeds;
 #[cfg(test)]
 mod inputs;
 #[cfg(test)]
-mod loopback;
-#[cfg(test)]
 mod pace;
 #[cfg(test)]
 mod reading;

@@ -26,7 +26,7 @@ pub(crate) fn rules(alloc: Global, count: u64, others: &[u8]) -> Result<Vec<u8>,
 /// start, of those that they answer, and of those that the committer evaluates.
 fn told_by<R: AllocGlobal + Threads + Wait + Clock + Sync>(
     rt: &R,
-    text: Vec<u8>,
+    text: &[u8],
     packets: u32,
     batch: usize,
     workers: u64,
@@ -41,7 +41,7 @@ fn told_by<R: AllocGlobal + Threads + Wait + Clock + Sync>(
     let (end, source) = replay_into(
         rt,
         source,
-        text.as_slice(),
+        text,
         batch,
         workers,
         Form::None,
@@ -49,7 +49,6 @@ fn told_by<R: AllocGlobal + Threads + Wait + Clock + Sync>(
         &turns,
     )?;
     let seen = turns.told();
-    drop(text);
     drop(source);
     drop(outputs);
     match end {
@@ -70,7 +69,7 @@ fn told<R: AllocGlobal + Threads + Wait + Clock + Sync>(
     requires workers { workers ≤ 64 }
 {
     let text = rules(rt.alloc(), count, &[])?;
-    told_by(rt, text, packets, batch, workers)
+    told_by(rt, text.as_slice(), packets, batch, workers)
 }
 
 /// The sum of the numbers from one up to another, which is left out.
@@ -143,7 +142,7 @@ fn workers_rest_where_few_rules_are_asked(rt: HostRuntime) -> Result<(), Fail> {
     text.extend_from_slice(rules(rt.alloc(), 200, &[])?.as_slice())?;
     let answered = beginnings(&[0, 2]);
     let again = sum(1, 5121).saturating_sub(answered);
-    assert!(rt; told_by(&rt, text, 5120, 1024, 2)? == (answered, answered, again));
+    assert!(rt; told_by(&rt, text.as_slice(), 5120, 1024, 2)? == (answered, answered, again));
     Ok(())
 }
 
@@ -154,7 +153,7 @@ fn workers_rest_where_few_rules_are_asked(rt: HostRuntime) -> Result<(), Fail> {
 fn workers_are_given_up_where_packets_change_the_table(rt: HostRuntime) -> Result<(), Fail> {
     let started = beginnings(&[0, 2]);
     let text = rules(rt.alloc(), 200, b"pass out\n")?;
-    assert!(rt; told_by(&rt, text, 12288, 1024, 2)?.0 == started);
+    assert!(rt; told_by(&rt, text.as_slice(), 12288, 1024, 2)?.0 == started);
     Ok(())
 }
 
