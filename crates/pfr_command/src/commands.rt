@@ -189,7 +189,6 @@ const PROGRESS: Word = Word {
 
 const RUN_COMMAND: Said = Said {
     command: CommandName::Run,
-    name: "run",
     about: "Replays a packet capture through a ruleset",
     example: RUN_EXAMPLE,
     more: Some(MORE_OF_RUN),
@@ -209,7 +208,6 @@ const RUN_COMMAND: Said = Said {
 
 const CHECK_COMMAND: Said = Said {
     command: CommandName::Check,
-    name: "check",
     about: "Reads a ruleset and prints how many rules it makes, and its checksum",
     example: CHECK_EXAMPLE,
     more: None,
@@ -223,7 +221,6 @@ const CHECK_COMMAND: Said = Said {
 
 const ADAPT_COMMAND: Said = Said {
     command: CommandName::Adapt,
-    name: "adapt",
     about: "Rewrites a ruleset in the words that the other commands read",
     example: ADAPT_EXAMPLE,
     more: Some(MORE_OF_ADAPT),
@@ -237,7 +234,6 @@ const ADAPT_COMMAND: Said = Said {
 
 const STANDBY_COMMAND: Said = Said {
     command: CommandName::Standby,
-    name: "standby",
     about: "Reads what a run tells a standby, and prints the states that it holds then",
     example: STANDBY_EXAMPLE,
     more: Some(MORE_OF_STANDBY),
@@ -259,7 +255,6 @@ const STANDBY_COMMAND: Said = Said {
 
 const STATES_COMMAND: Said = Said {
     command: CommandName::States,
-    name: "states",
     about: "Lists the states that a run left, as pfctl does",
     example: STATES_EXAMPLE,
     more: Some(MORE_OF_STATES),
@@ -281,7 +276,6 @@ const STATES_COMMAND: Said = Said {
 
 const RULES_COMMAND: Said = Said {
     command: CommandName::Rules,
-    name: "rules",
     about: "Prints each rule that a ruleset makes, with its number and its line",
     example: RULES_EXAMPLE,
     more: Some(MORE_OF_RULES),
@@ -301,7 +295,6 @@ const RULES_COMMAND: Said = Said {
 
 const DIFF_COMMAND: Said = Said {
     command: CommandName::Diff,
-    name: "diff",
     about: "Says for which packets of a capture another ruleset comes to something else",
     example: DIFF_EXAMPLE,
     more: Some(MORE_OF_DIFF),
@@ -395,7 +388,6 @@ const SELECTION: [Word; 7] = [
 
 const SHOW_COMMAND: Said = Said {
     command: CommandName::Show,
-    name: "show",
     about: "Shows packets of a capture, each with the rule that decided",
     example: SHOW_EXAMPLE,
     more: Some(MORE_OF_SHOW),
@@ -410,7 +402,6 @@ const SHOW_COMMAND: Said = Said {
 
 const REPORT_COMMAND: Said = Said {
     command: CommandName::Report,
-    name: "report",
     about: "Prints a page of HTML about what a run made of a capture",
     example: REPORT_EXAMPLE,
     more: Some(MORE_OF_REPORT),
@@ -444,20 +435,10 @@ const COMMANDS: [Said; 9] = [
     REPORT_COMMAND,
 ];
 
-/// The command of this name.
-pub(crate) fn command_named(name: &str) -> Option<CommandName> {
-    for said in &COMMANDS {
-        if said.name == name {
-            return Some(said.command);
-        }
-    }
-    None
-}
-
 /// The command that words ask for, the program's name first.
 pub fn command_of(words: &[String]) -> Option<CommandName> {
     match words.get(1) {
-        Some(word) => command_named(word.as_str()),
+        Some(word) => CommandName::of(word.as_str()),
         None => None,
     }
 }

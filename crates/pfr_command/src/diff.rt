@@ -1,5 +1,5 @@
 //! What the words behind `diff` say.
-ghost use Rattle.std.specs.Prelude.{◌≡◌, length};
+ghost use Rattle.std.specs.Prelude.{◌≡◌, IfOk, length};
 ghost use Rattle.std.proofs.Props.{props};
 ghost use Rattle.pfr_values.specs.Places.{ArePlaces};
 
@@ -8,7 +8,8 @@ use crate::words::Asked;
 use clap::ArgMatches;
 use pfr_items::Items;
 use pfr_prepare::Request;
-use pfr_values::{CaptureWords, Refused, Ways, given_ways};
+use pfr_ruleset::Interface;
+use pfr_values::{CaptureWords, Places, Refused, Ways, given_ways};
 use std::alloc::Global;
 
 /// What the words behind `diff` say: which captures are replayed through which two rulesets, and how.
@@ -38,19 +39,67 @@ pub(crate) fn diff_words<'a>(
     matches: &ArgMatches<'a>,
 ) -> Result<Asked<'a>, Refused<'a>> {
     let seed = given_seed(matches)?;
-    let adapts = matches.get_flag("adapt");
     let places = given_captures(alloc, matches)?;
-    let ways = given_ways(alloc, matches, places.captures.as_slice())?;
-    let interfaces = Items::copied(alloc, places.interfaces.as_slice())?;
-    let new = given_rules(alloc, matches, "NEW", adapts, interfaces)?;
-    let old = given_rules(alloc, matches, "OLD", adapts, places.interfaces)?;
-    Ok(Asked::Diff(DiffWords {
-        captures: places.captures,
-        old,
-        new,
-        ways,
-        seed,
-        verdicts_alone: matches.get_flag("verdicts"),
-        progresses: matches.get_flag("progress"),
-    }))
+    match given_ways(alloc, matches, places.captures.as_slice()) {
+        Ok(ways) => with_ways(alloc, matches, seed, places, ways),
+        Err(refused) => {
+            drop(places);
+            Err(refused)
+        }
+    }
+}
+
+/// What they ask for with these places and these ways.
+fn with_ways<'a>(
+    alloc: Global,
+    matches: &ArgMatches<'a>,
+    seed: [u8; 32],
+    places: Places<'a>,
+    ways: Ways,
+) -> Result<Asked<'a>, Refused<'a>>
+    requires places { ArePlaces places.interfaces places.captures }
+    requires ways { length ways.link_addresses ≡ length places.captures }
+{
+    match both_rules(alloc, matches, places.interfaces) {
+        Ok(both) => Ok(Asked::Diff(DiffWords {
+            captures: places.captures,
+            old: both.old,
+            new: both.new,
+            ways,
+            seed,
+            verdicts_alone: matches.get_flag("verdicts"),
+            progresses: matches.get_flag("progress"),
+        })),
+        Err(refused) => {
+            drop(ways);
+            Err(refused)
+        }
+    }
+}
+
+/// The rulesets that are compared.
+#[derive(Drop)]
+struct Both<'a> {
+    old: Request<'a>,
+    new: Request<'a>,
+}
+
+/// The rulesets that the words name, for these interfaces.
+fn both_rules<'a>(
+    alloc: Global,
+    matches: &ArgMatches<'a>,
+    interfaces: Items<Interface>,
+) -> Result<Both<'a>, Refused<'a>>
+    ensures { IfOk result (λ both. both.old.interfaces ≡ interfaces) }
+{
+    let adapts = matches.get_flag("adapt");
+    let others = Items::copied(alloc, interfaces.as_slice())?;
+    let new = given_rules(alloc, matches, "NEW", adapts, others)?;
+    match given_rules(alloc, matches, "OLD", adapts, interfaces) {
+        Ok(old) => Ok(Both { old, new }),
+        Err(refused) => {
+            drop(new);
+            Err(refused)
+        }
+    }
 }

@@ -63,11 +63,50 @@ pub enum CommandName {
     Report,
 }
 
-/// A command: its name, what its help says, and its words in the order in which the help lists them.
+/// All commands.
+const COMMAND_NAMES: [CommandName; 9] = [
+    CommandName::Run,
+    CommandName::Check,
+    CommandName::Adapt,
+    CommandName::Standby,
+    CommandName::States,
+    CommandName::Rules,
+    CommandName::Diff,
+    CommandName::Show,
+    CommandName::Report,
+];
+
+impl CommandName {
+    /// The word for it.
+    fn word(self) -> &'static str {
+        match self {
+            CommandName::Run => "run",
+            CommandName::Check => "check",
+            CommandName::Adapt => "adapt",
+            CommandName::Standby => "standby",
+            CommandName::States => "states",
+            CommandName::Rules => "rules",
+            CommandName::Diff => "diff",
+            CommandName::Show => "show",
+            CommandName::Report => "report",
+        }
+    }
+
+    /// The command that a word stands for.
+    pub(crate) fn of(word: &str) -> Option<CommandName> {
+        for command in COMMAND_NAMES {
+            if command.word() == word {
+                return Some(command);
+            }
+        }
+        None
+    }
+}
+
+/// A command: what its help says, and its words in the order in which the help lists them.
 #[derive(Clone, Copy)]
 pub(crate) struct Said {
     pub(crate) command: CommandName,
-    pub(crate) name: &'static str,
     pub(crate) about: &'static str,
     pub(crate) example: &'static str,
     pub(crate) more: Option<&'static str>,
@@ -157,7 +196,7 @@ fn with_more<'a>(command: Command<'a>, more: Option<&'static str>) -> Command<'a
 
 /// A command as the command line has it.
 pub(crate) fn command<'a>(alloc: Global, said: &Said) -> Result<Command<'a>, AllocError> {
-    let command = Command::new(alloc, said.name).about(said.about);
+    let command = Command::new(alloc, said.command.word()).about(said.about);
     let command = with_more(command.before_help(said.example), said.more);
     command.args(args_of(alloc, said.parts)?)
 }

@@ -1,5 +1,5 @@
 //! The words of the command line.
-use crate::commands::{command_line, command_named};
+use crate::commands::command_line;
 use crate::diff::{DiffWords, diff_words};
 use crate::given::{given, given_interfaces, given_rules};
 use crate::report::{ReportWords, report_words};
@@ -92,7 +92,7 @@ fn asked_by<'a>(alloc: Global, matches: &ArgMatches<'a>) -> Result<Asked<'a>, Re
     let Some((name, matches)) = matches.subcommand() else {
         return Err(Refused::MissingWord("COMMAND"));
     };
-    let Some(command) = command_named(name) else {
+    let Some(command) = CommandName::of(name) else {
         return Err(Refused::MissingWord("COMMAND"));
     };
     match command {
