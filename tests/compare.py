@@ -34,8 +34,8 @@ WITHOUT_MODEL_ALONE = ("workers", "hostile", "gateway", "manners", "first", "doc
 # those that leave out random cases
 IN_PART = ("rulesets", "expansions", "tracking", "table", "steps", "commits", "messages", "schedules", "published")
 # those of the program pfreplay, of answers and of run_answers
-OF_PFREPLAY = ("runs", "workers", "matrix", "standby", "listing", "telling", "changes", "showing", "reporting", "adapt",
-               "faults", "hostile", "gateway", "manners", "first")
+OF_PFREPLAY = ("runs", "expansions", "workers", "matrix", "standby", "listing", "telling", "changes", "showing",
+               "reporting", "adapt", "faults", "hostile", "gateway", "manners", "first")
 OF_ANSWERS = ("rulesets", "expansions", "tracking", "table", "steps", "commits", "messages")
 OF_RUNS = ("schedules", "published", "devices")
 

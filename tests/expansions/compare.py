@@ -11,8 +11,8 @@ It answers each with the lines of the dump that model.py tells of, the line `F f
 for the first fault. Behind each answer stands a line `end`.
 
 Answers are written to the texts of the folder and to the rows, and the model has to give them too. They are written to
-hostile texts as well. What is made of the texts, macros of every word in every place and random rulesets are answered by
-the model.
+hostile texts as well, about which `pfreplay check` is asked too. What is made of the texts, macros of every word in
+every place and random rulesets are answered by the model.
 """
 
 import random
@@ -24,7 +24,7 @@ from itertools import repeat
 import building
 import rulesets.cases
 from answering import answers_of, least_of
-from expansions import expected, interface_kinds, model
+from expansions import checking, expected, interface_kinds, model
 from expansions.cases import EM0, RUNS, SEED, Text, each_value
 from expansions.hostile import hostile
 from expansions.hosts import interface_of
@@ -37,7 +37,7 @@ SHOWN_BYTES, SHOWN_LINES = 500, 4
 RANDOM_TEXTS = 18000
 # one in so many of the texts that are made is compared, and of the allocations one is refused; all of them with `--all`
 PART = 9
-# hostile texts that are answered within seconds; the others are compared with `--all`
+# hostile texts that a program that isn't proved answers within seconds; it is asked about the others with `--all`
 QUICK = ("as long a word as may have a suffix", "a longer word with a suffix", "forty doublings of what is no word",
          "15 anchors of a hundred round a fault", "16 anchors of a hundred round none",
          "16 anchors of a hundred round none and a rule", "16 anchors of a hundred round a rule",
@@ -200,6 +200,17 @@ def compare_model():
     return len(wrong)
 
 
+def compare_hostile():
+    """Of how many hostile texts the proved program says something else."""
+    texts = list(hostile())
+    right = [answer_of(text) if text.answer else model_answer(text, counts_alone=True) for text in texts]
+    seen = checking.said_of_each(building.pfreplay(), texts)
+    wrong = [(text, answer, [said]) for text, answer, said in zip(texts, right, seen) if [said] != answer]
+    show(wrong)
+    print(f"{len(texts)} hostile texts: {len(wrong)} differ from the proved program")
+    return len(wrong)
+
+
 def too_seldom(kinds, least):
     """Prints how many random texts are of each kind, and answers of which ones there are too few."""
     for names in (PROMISED, interface_kinds.COUNTED):
@@ -246,5 +257,5 @@ def model_alone():
 
 def main(part=PART):
     command = building.answers("expansions")
-    wrong = compare_model() + compare(command, part)
+    wrong = compare_model() + compare(command, part) + compare_hostile()
     sys.exit(not refuse_memory(command, part) or bool(wrong))
