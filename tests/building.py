@@ -32,7 +32,7 @@ def named_crates(listed=CRATES_LIST):
 
 
 def used_by(crate, named):
-    """A crate and all that it stands on, each once: what it names, and what that names."""
+    """A crate and all that it depends on, each once: what it names, and what that names."""
     used = [crate]
     for name in used:
         used.extend(other for other in named.get(name, ()) if other not in used)
