@@ -7,8 +7,8 @@ use Rattle.pfr_net.specs.Interfaces.{meets}
 use Rattle.pfr_net.specs.declared.interface.Binding.{Binding}
 use Rattle.pfr_net.specs.declared.interface.Binding.TheVariants.{To}
 use Rattle.pfr_net.specs.declared.interface.InterfacePlace.{InterfacePlace}
-use Rattle.pfr_ruleset.specs.declared.policy.StatePolicy.{StatePolicy}
-use Rattle.pfr_ruleset.specs.declared.policy.StatePolicy.TheVariants.{Floating, IfBound}
+use Rattle.pfr_net.specs.declared.policy.StatePolicy.{StatePolicy}
+use Rattle.pfr_net.specs.declared.policy.StatePolicy.TheVariants.{Floating, IfBound}
 use Rattle.pfr_track.specs.declared.state.State.{State}
 use Rattle.pfr_states.proofs.Membership.{in_cons, in_none}
 use Rattle.pfr_packet.specs.Job.{RunJob}

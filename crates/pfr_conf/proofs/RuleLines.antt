@@ -1,7 +1,7 @@
 -- The readers of options and filter rules have their faults on lines of the text.
 use Rattle.std.proofs.Common.{ℕ, Bool, List, Option, Some, None, Err}
-use Rattle.pfr_ruleset.specs.declared.policy.BlockPolicy.{BlockPolicy}
-use Rattle.pfr_ruleset.specs.declared.policy.StatePolicy.{StatePolicy}
+use Rattle.pfr_net.specs.declared.policy.BlockPolicy.{BlockPolicy}
+use Rattle.pfr_net.specs.declared.policy.StatePolicy.{StatePolicy}
 use Rattle.pfr_terms.specs.declared.error.ConfError.{ConfError}
 use Rattle.pfr_terms.specs.declared.name.Name.{Name}
 use Rattle.pfr_terms.specs.declared.name.MacroUse.{MacroUse}

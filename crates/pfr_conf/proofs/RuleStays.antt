@@ -1,8 +1,8 @@
 -- The readers of options and filter rules read the same if lines stand behind what they read.
 use Rattle.std.proofs.Common.{ℕ, suc, Bool, true, false, if◌then◌else◌, not, List, Option, Some, None, Err, codes, refl}
 use Rattle.pfr_net.specs.declared.direction.Direction.{Direction}
-use Rattle.pfr_ruleset.specs.declared.policy.BlockPolicy.{BlockPolicy}
-use Rattle.pfr_ruleset.specs.declared.policy.StatePolicy.{StatePolicy}
+use Rattle.pfr_net.specs.declared.policy.BlockPolicy.{BlockPolicy}
+use Rattle.pfr_net.specs.declared.policy.StatePolicy.{StatePolicy}
 use Rattle.pfr_words.specs.declared.sign.Sign.TheVariants as s
 use Rattle.pfr_terms.specs.declared.name.Name.{Name}
 use Rattle.pfr_terms.specs.declared.name.Written.{Written}

@@ -1,6 +1,6 @@
 -- The readers of translation rules read the same if lines stand behind what they read.
 use Rattle.std.proofs.Common.{ℕ, ◌||◌, ◌&&◌, Bool, true, false, List, Option, Some, None, Result, Ok, Err, codes, nat_lt, refl}
-use Rattle.pfr_ruleset.specs.declared.port.PortMatch.{PortMatch}
+use Rattle.pfr_net.specs.declared.port_match.PortMatch.{PortMatch}
 use Rattle.pfr_words.specs.declared.sign.Sign.TheVariants as s
 use Rattle.pfr_terms.specs.declared.error.ConfError.{ConfError}
 use Rattle.pfr_terms.specs.declared.error.ConfErrorKind.TheVariants.{BadNumber, BadAddress}

@@ -2,10 +2,10 @@
 use Rattle.std.specs.Prelude.{if◌then◌else◌, Option, Some, None, codes}
 use Rattle.pfr_net.specs.declared.direction.Direction.{Direction}
 use Rattle.pfr_net.specs.declared.direction.Direction.TheVariants.{In, Out}
-use Rattle.pfr_ruleset.specs.declared.policy.BlockPolicy.{BlockPolicy}
-use Rattle.pfr_ruleset.specs.declared.policy.BlockPolicy.TheVariants as policy
-use Rattle.pfr_ruleset.specs.declared.policy.StatePolicy.{StatePolicy}
-use Rattle.pfr_ruleset.specs.declared.policy.StatePolicy.TheVariants.{IfBound, Floating}
+use Rattle.pfr_net.specs.declared.policy.BlockPolicy.{BlockPolicy}
+use Rattle.pfr_net.specs.declared.policy.BlockPolicy.TheVariants as policy
+use Rattle.pfr_net.specs.declared.policy.StatePolicy.{StatePolicy}
+use Rattle.pfr_net.specs.declared.policy.StatePolicy.TheVariants.{IfBound, Floating}
 use Rattle.pfr_terms.specs.Input.{Parser, ◌>>=◌, pure, refuse, taken, at_line_end, eat_word}
 
 unfoldable pub direction : Parser (Option Direction)

@@ -1,7 +1,7 @@
 -- What may stand behind the hosts of a filter rule.
 use Rattle.std.specs.Prelude.{ℕ, Bool, true, false, not, if◌then◌else◌, List, Option, Some, None, Err, codes}
 use Rattle.std.specs.Option.{is_none, is_some}
-use Rattle.pfr_ruleset.specs.declared.policy.StatePolicy.{StatePolicy}
+use Rattle.pfr_net.specs.declared.policy.StatePolicy.{StatePolicy}
 use Rattle.pfr_words.specs.declared.sign.Sign.TheVariants as s
 use Rattle.pfr_terms.specs.Input.{Parser, ◌>>=◌, pure, loop, number_in, eat_word, eat_sign, expect_word}
 use Rattle.pfr_terms.specs.Lists.{written, list}

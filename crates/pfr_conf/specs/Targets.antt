@@ -2,7 +2,7 @@
 use Rattle.std.specs.Prelude.{ℕ, ◌&&◌, ◌||◌, Bool, true, nat_lt, if◌then◌else◌, List, Option, Some, None, Result, Ok, Err, codes}
 use Rattle.std.specs.Str.{bytes_eq}
 use Rattle.pfr_net.specs.Notation.{cut_at}
-use Rattle.pfr_ruleset.specs.declared.port.PortMatch.{PortMatch}
+use Rattle.pfr_net.specs.declared.port_match.PortMatch.{PortMatch}
 use Rattle.pfr_words.specs.declared.sign.Sign.TheVariants as s
 use Rattle.pfr_terms.specs.declared.error.ConfError.{ConfError}
 use Rattle.pfr_terms.specs.declared.error.ConfErrorKind.TheVariants.{BadNumber, BadAddress}

@@ -5,8 +5,7 @@ ghost use Rattle.pfr_conf.specs.Filters as spec;
 
 use crate::policy::{block_policy_ahead, direction_ahead};
 use crate::rule_options::{RuleOptions, options_behind};
-use pfr_net::Direction;
-use pfr_ruleset::BlockPolicy;
+use pfr_net::{BlockPolicy, Direction};
 use pfr_terms::hosts::packet_criteria;
 use pfr_terms::{ConfError, Criteria, Reader};
 use pfr_words::Sign;

@@ -24,9 +24,9 @@ pub use filter::{Action, FilterRule};
 pub use macros::{MacroDefinition, Piece};
 pub use options::SetOption;
 pub use pfr_items::Items;
-pub use pfr_net::{Direction, Ipv4Address, Net, Protocol};
-pub use pfr_ruleset::{
-    BlockPolicy, Comparison, FlagSet, IcmpMatch, PortMatch, RangeOperator, StatePolicy,
+pub use pfr_net::{
+    BlockPolicy, Comparison, Direction, FlagSet, IcmpMatch, Ipv4Address, Net, PortMatch, Protocol,
+    RangeOperator, StatePolicy,
 };
 pub use pfr_terms::{
     Address, AddressMatch, ConfError, ConfErrorKind, Criteria, FlagsMatch, Host, Hosts,

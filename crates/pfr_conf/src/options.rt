@@ -7,7 +7,7 @@ use crate::policy::{block_policy_ahead, state_policy_ahead};
 use crate::settings::{LimitSetting, TimeoutSetting};
 use pfr_items::Items;
 use pfr_net::notation::{TOO_LARGE, number};
-use pfr_ruleset::{BlockPolicy, StatePolicy};
+use pfr_net::{BlockPolicy, StatePolicy};
 use pfr_terms::lists::{Item, list};
 use pfr_terms::{ConfError, ConfErrorKind, InterfaceName, LeftOutName, Name, Reader, Written};
 use pfr_words::Bytes;

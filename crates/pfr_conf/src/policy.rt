@@ -3,8 +3,7 @@ ghost use Rattle.std.specs.Prelude.{◌≡◌, Ok};
 ghost use Rattle.pfr_terms.specs.Input.{Reads};
 ghost use Rattle.pfr_conf.specs.Policies as spec;
 
-use pfr_net::Direction;
-use pfr_ruleset::{BlockPolicy, StatePolicy};
+use pfr_net::{BlockPolicy, Direction, StatePolicy};
 use pfr_terms::{ConfError, Reader};
 use std::alloc::Global;
 

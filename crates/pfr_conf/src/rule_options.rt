@@ -8,7 +8,7 @@ use crate::name::some_name;
 use crate::policy::state_policy_ahead;
 use crate::settings::timeout_refusal;
 use pfr_items::Items;
-use pfr_ruleset::{IcmpMatch, StatePolicy};
+use pfr_net::{IcmpMatch, StatePolicy};
 use pfr_terms::flags::flags_match;
 use pfr_terms::lists::list;
 use pfr_terms::{ConfError, FlagsMatch, Name, Reader, Written};

@@ -4,8 +4,8 @@ ghost use Rattle.pfr_terms.specs.Input.{Reads, Refuses};
 ghost use Rattle.pfr_conf.specs.Targets as spec;
 
 use crate::translation::TranslationKind;
+use pfr_net::PortMatch;
 use pfr_net::notation::cut;
-use pfr_ruleset::PortMatch;
 use pfr_terms::error::left_out_at;
 use pfr_terms::lists::Item;
 use pfr_terms::port::{PortWord, port_or_range, port_word};

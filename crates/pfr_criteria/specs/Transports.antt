@@ -1,13 +1,13 @@
 -- The criteria of a packet's transport header: ports, TCP flags and ICMP types (pf.conf(5), "Parameters").
 use Rattle.std.specs.Prelude.{ℕ, ◌==◌, ◌&&◌, ◌||◌, Bool, true, false, not, nat_lt, nat_le, Option, Some, None}
 use Rattle.std.specs.Int.RustNames.{bit_and}
-use Rattle.pfr_ruleset.specs.declared.port.PortMatch.{PortMatch}
-use Rattle.pfr_ruleset.specs.declared.port.PortMatch.TheVariants as port
-use Rattle.pfr_ruleset.specs.declared.port.Comparison.{Comparison}
-use Rattle.pfr_ruleset.specs.declared.port.Comparison.TheVariants as c
-use Rattle.pfr_ruleset.specs.declared.port.RangeOperator.{RangeOperator}
-use Rattle.pfr_ruleset.specs.declared.port.RangeOperator.TheVariants as r
-use Rattle.pfr_ruleset.specs.declared.icmp.IcmpMatch.{IcmpMatch}
+use Rattle.pfr_net.specs.declared.port_match.PortMatch.{PortMatch}
+use Rattle.pfr_net.specs.declared.port_match.PortMatch.TheVariants as port
+use Rattle.pfr_net.specs.declared.port_match.Comparison.{Comparison}
+use Rattle.pfr_net.specs.declared.port_match.Comparison.TheVariants as c
+use Rattle.pfr_net.specs.declared.port_match.RangeOperator.{RangeOperator}
+use Rattle.pfr_net.specs.declared.port_match.RangeOperator.TheVariants as r
+use Rattle.pfr_net.specs.declared.icmp_match.IcmpMatch.{IcmpMatch}
 use Rattle.pfr_ruleset.specs.declared.flat.FlagsCriterion.{FlagsCriterion}
 use Rattle.pfr_ruleset.specs.declared.flat.FlagsCriterion.TheVariants as asked
 use Rattle.pfr_headers.specs.declared.icmp.IcmpMessage.{IcmpMessage}

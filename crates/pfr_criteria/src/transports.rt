@@ -3,7 +3,8 @@ ghost use Rattle.std.specs.Prelude.{◌≡◌, ◌<◌};
 ghost use Rattle.pfr_criteria.specs.Transports as spec;
 
 use pfr_headers::{IcmpMessage, Transport};
-use pfr_ruleset::{Comparison, FlagsCriterion, IcmpMatch, PortMatch, RangeOperator};
+use pfr_net::{Comparison, IcmpMatch, PortMatch, RangeOperator};
+use pfr_ruleset::FlagsCriterion;
 
 /// How a port compares with one that is written.
 fn compares(comparison: Comparison, port: u16, written: u16) -> bool

@@ -1,8 +1,8 @@
 -- What interfaces, protocols, ports and ICMP types mean in a list.
 use Rattle.std.specs.Prelude.{ℕ, Bool, true, false, Option, Some, None, Result, Ok, Err}
 use Rattle.pfr_net.specs.declared.protocol.Protocol.{Protocol}
-use Rattle.pfr_ruleset.specs.declared.icmp.IcmpMatch.{IcmpMatch}
-use Rattle.pfr_ruleset.specs.declared.port.PortMatch.{PortMatch}
+use Rattle.pfr_net.specs.declared.icmp_match.IcmpMatch.{IcmpMatch}
+use Rattle.pfr_net.specs.declared.port_match.PortMatch.{PortMatch}
 use Rattle.pfr_net.specs.declared.interface.IfName.{IfName}
 use Rattle.pfr_ruleset.specs.declared.interface.InterfaceCriterion.{InterfaceCriterion}
 use Rattle.pfr_net.specs.Interfaces.{if_name}

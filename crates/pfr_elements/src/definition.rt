@@ -2,8 +2,8 @@
 ghost use Rattle.std.specs.Prelude.{◌≡◌};
 
 use pfr_items::Items;
-use pfr_net::{IfName, Ipv4Address, Net, Protocol};
-use pfr_ruleset::{HostCriterion, IcmpMatch, InterfaceCriterion, PortMatch};
+use pfr_net::{IcmpMatch, IfName, Ipv4Address, Net, PortMatch, Protocol};
+use pfr_ruleset::{HostCriterion, InterfaceCriterion};
 use pfr_terms::ConfError;
 use std::marker::Model;
 

@@ -5,8 +5,8 @@ use Rattle.std.proofs.lemmas.List.{length-append, length-map}
 use Rattle.std.proofs.lemmas.List.Elements.{All-nil, All-cons, All-head, All-map, All-push, All-tail, Contains-get_or}
 use Rattle.std.proofs.lemmas.Option.{get_or_from_slice_get, slice_get-get_or, slice_get_within}
 use Rattle.pfr_net.specs.declared.protocol.Protocol.{Protocol}
-use Rattle.pfr_ruleset.specs.declared.port.PortMatch.{PortMatch}
-use Rattle.pfr_ruleset.specs.declared.icmp.IcmpMatch.{IcmpMatch}
+use Rattle.pfr_net.specs.declared.port_match.PortMatch.{PortMatch}
+use Rattle.pfr_net.specs.declared.icmp_match.IcmpMatch.{IcmpMatch}
 use Rattle.pfr_ruleset.specs.declared.hosts.HostCriterion.{HostCriterion}
 use Rattle.pfr_ruleset.specs.declared.flat.PacketMatch.{PacketMatch}
 use Rattle.pfr_terms.specs.declared.address.Address.{Address}

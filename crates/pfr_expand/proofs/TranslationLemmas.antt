@@ -8,7 +8,7 @@ use Rattle.pfr_net.specs.declared.address.Ipv4Address.{Ipv4Address}
 use Rattle.pfr_ruleset.specs.declared.flat.FlatTranslation.{FlatTranslation}
 use Rattle.pfr_ruleset.specs.declared.flat.PortChange.TheVariants.{From}
 use Rattle.pfr_ruleset.specs.declared.flat.RdrAddress.{RdrAddress}
-use Rattle.pfr_ruleset.specs.declared.port.PortMatch.{PortMatch}
+use Rattle.pfr_net.specs.declared.port_match.PortMatch.{PortMatch}
 use Rattle.pfr_ruleset.specs.declared.flat.PacketMatch.{PacketMatch}
 use Rattle.pfr_ruleset.specs.declared.ruleset.Ruleset as R
 use Rattle.pfr_ruleset.specs.Translations.{no_translations}

@@ -1,8 +1,8 @@
 -- Filter rules and anchors as flat rules, with the anchors round them.
 use Rattle.std.specs.Prelude.{◌≡◌, ℕ, zero, suc, ◌-◌, ◌==◌, Bool, true, false, not, nat_lt, if◌then◌else◌, List, [], ◌∷◌, ◌++◌, length, map, fold, Option, Some, None, Result, Ok, Err, ◌≢◌}
-use Rattle.pfr_ruleset.specs.declared.policy.BlockPolicy.{BlockPolicy}
-use Rattle.pfr_ruleset.specs.declared.policy.BlockPolicy.TheVariants as b
-use Rattle.pfr_ruleset.specs.declared.policy.StatePolicy.{StatePolicy}
+use Rattle.pfr_net.specs.declared.policy.BlockPolicy.{BlockPolicy}
+use Rattle.pfr_net.specs.declared.policy.BlockPolicy.TheVariants as b
+use Rattle.pfr_net.specs.declared.policy.StatePolicy.{StatePolicy}
 use Rattle.pfr_ruleset.specs.declared.flat.PacketMatch.{PacketMatch}
 use Rattle.pfr_ruleset.specs.declared.flat.FilterAction.{FilterAction}
 use Rattle.pfr_ruleset.specs.declared.flat.FilterAction.TheVariants as action

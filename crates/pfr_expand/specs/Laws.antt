@@ -1,7 +1,7 @@
 -- Words of the laws: of which statements the filter rules of a ruleset are, and how many.
 use Rattle.std.specs.Prelude.{◌≡◌, ◌≢◌, ⊤, ℕ, zero, suc, ◌*◌, List, [], ◌∷◌, ◌++◌, length, All, Contains, true, false, Option, Some, None, IsSomeAnd, IfSome, ◌+◌, Ok, ◌≤◌}
-use Rattle.pfr_ruleset.specs.declared.port.PortMatch.{PortMatch}
-use Rattle.pfr_ruleset.specs.declared.policy.BlockPolicy.TheVariants.{Drop, Return}
+use Rattle.pfr_net.specs.declared.port_match.PortMatch.{PortMatch}
+use Rattle.pfr_net.specs.declared.policy.BlockPolicy.TheVariants.{Drop, Return}
 use Rattle.pfr_ruleset.specs.declared.flat.FilterAction.{FilterAction}
 use Rattle.pfr_ruleset.specs.declared.flat.FilterAction.TheVariants as does
 use Rattle.pfr_ruleset.specs.declared.flat.FlagsCriterion.{FlagsCriterion}

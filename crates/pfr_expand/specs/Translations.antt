@@ -1,8 +1,8 @@
 -- Translation rules as flat rules.
 use Rattle.std.specs.Prelude.{ℕ, ◌++◌, Bool, true, List, Option, Some, None, Result, Ok, Err, if◌then◌else◌}
 use Rattle.pfr_net.specs.declared.address.Ipv4Address.{Ipv4Address}
-use Rattle.pfr_ruleset.specs.declared.port.PortMatch.{PortMatch}
-use Rattle.pfr_ruleset.specs.declared.port.PortMatch.TheVariants as p
+use Rattle.pfr_net.specs.declared.port_match.PortMatch.{PortMatch}
+use Rattle.pfr_net.specs.declared.port_match.PortMatch.TheVariants as p
 use Rattle.pfr_ruleset.specs.declared.flat.PacketMatch.{PacketMatch}
 use Rattle.pfr_ruleset.specs.declared.flat.PortRange.{PortRange}
 use Rattle.pfr_ruleset.specs.declared.flat.PortChange.{PortChange}

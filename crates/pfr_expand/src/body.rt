@@ -20,9 +20,10 @@ use pfr_flat::{
     too_many,
 };
 use pfr_items::Items;
+use pfr_net::{BlockPolicy, StatePolicy};
 use pfr_ruleset::{
-    BlockPolicy, FilterAction, FlagsCriterion, FlatAnchor, FlatRule, Label, NO_MATCH, PacketMatch,
-    StatePolicy, StateRule, put_anchors,
+    FilterAction, FlagsCriterion, FlatAnchor, FlatRule, Label, NO_MATCH, PacketMatch, StateRule,
+    put_anchors,
 };
 use std::alloc::{AllocError, Global};
 use std::mem::{drop, replace};

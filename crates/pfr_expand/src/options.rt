@@ -11,8 +11,8 @@ use pfr_conf::{
 };
 use pfr_elements::{Elements, Scope, elements_of};
 use pfr_flat::too_many;
-use pfr_net::{IfName, Timeouts};
-use pfr_ruleset::{BlockPolicy, Options};
+use pfr_net::{BlockPolicy, IfName, Timeouts};
+use pfr_ruleset::Options;
 use std::alloc::{AllocError, Global};
 
 fn set_timeouts(options: &mut Options, settings: &[TimeoutSetting])

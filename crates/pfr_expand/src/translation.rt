@@ -15,10 +15,9 @@ use pfr_conf::{
 use pfr_elements::{Elements, Scope, single_sources, written_single};
 use pfr_flat::lists::addresses_in;
 use pfr_flat::{Choices, Lists, all_fit, combinations, lists_of, lists_with, put_translations};
-use pfr_net::Ipv4Address;
+use pfr_net::{Ipv4Address, PortMatch};
 use pfr_ruleset::{
-    HostCriterion, NatAddress, PacketMatch, PortChange, PortMatch, PortRange, RdrAddress,
-    Translations,
+    HostCriterion, NatAddress, PacketMatch, PortChange, PortRange, RdrAddress, Translations,
 };
 use std::alloc::{AllocError, Global};
 use std::mem::drop;

@@ -1,8 +1,8 @@
 -- What the lists of a rule or an anchor come to.
 use Rattle.std.specs.Prelude.{ℕ, ◌*◌, ◌||◌, Bool, nat_lt, List, [], ◌∷◌, map, Option, Some, None, Result, Ok, Err}
 use Rattle.pfr_net.specs.declared.protocol.Protocol.{Protocol}
-use Rattle.pfr_ruleset.specs.declared.icmp.IcmpMatch.{IcmpMatch}
-use Rattle.pfr_ruleset.specs.declared.port.PortMatch.{PortMatch}
+use Rattle.pfr_net.specs.declared.icmp_match.IcmpMatch.{IcmpMatch}
+use Rattle.pfr_net.specs.declared.port_match.PortMatch.{PortMatch}
 use Rattle.pfr_ruleset.specs.declared.hosts.HostCriterion.{HostCriterion}
 use Rattle.pfr_ruleset.specs.declared.interface.InterfaceCriterion.{InterfaceCriterion}
 use Rattle.pfr_terms.specs.declared.error.ConfError.{ConfError}

@@ -1,9 +1,9 @@
 -- Flat translation rules.
 use Rattle.std.specs.Prelude.{ℕ, suc, ◌+◌, ◌-◌, ◌&&◌, Bool, true, false, nat_le, List, [], ◌∷◌, Option, Some, None}
-use Rattle.pfr_ruleset.specs.declared.port.Comparison.TheVariants as c
-use Rattle.pfr_ruleset.specs.declared.port.RangeOperator.TheVariants as r
-use Rattle.pfr_ruleset.specs.declared.port.PortMatch.{PortMatch}
-use Rattle.pfr_ruleset.specs.declared.port.PortMatch.TheVariants as p
+use Rattle.pfr_net.specs.declared.port_match.Comparison.TheVariants as c
+use Rattle.pfr_net.specs.declared.port_match.RangeOperator.TheVariants as r
+use Rattle.pfr_net.specs.declared.port_match.PortMatch.{PortMatch}
+use Rattle.pfr_net.specs.declared.port_match.PortMatch.TheVariants as p
 use Rattle.pfr_ruleset.specs.declared.flat.PacketMatch.{PacketMatch}
 use Rattle.pfr_ruleset.specs.declared.flat.FlatTranslation.{FlatTranslation}
 

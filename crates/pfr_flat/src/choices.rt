@@ -3,8 +3,8 @@ ghost use Rattle.std.specs.Prelude.{◌≡◌, ◌++◌, OnOk, IfOk};
 ghost use Rattle.pfr_flat.specs.Choices as spec;
 
 use pfr_items::Items;
-use pfr_net::Protocol;
-use pfr_ruleset::{HostCriterion, IcmpMatch, InterfaceCriterion, NO_MATCH, PacketMatch, PortMatch};
+use pfr_net::{IcmpMatch, PortMatch, Protocol};
+use pfr_ruleset::{HostCriterion, InterfaceCriterion, NO_MATCH, PacketMatch};
 use std::alloc::{AllocError, Global};
 
 /// What may be chosen for each criterion of a rule, in the order in which it is written. If nothing is written, there

@@ -11,8 +11,8 @@ use crate::counts::MOST_RULES;
 use pfr_conf::{AddressMatch, ConfError, Criteria, InterfaceMatch, Part, Written};
 use pfr_elements::{Element, Elements, MOST_ELEMENTS, Scope, elements_of};
 use pfr_items::Items;
-use pfr_net::Protocol;
-use pfr_ruleset::{ANYONE, HostCriterion, IcmpMatch, InterfaceCriterion, PortMatch};
+use pfr_net::{IcmpMatch, PortMatch, Protocol};
+use pfr_ruleset::{ANYONE, HostCriterion, InterfaceCriterion};
 use std::alloc::{AllocError, Global};
 use std::mem::{drop, swap};
 

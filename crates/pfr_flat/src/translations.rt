@@ -2,9 +2,8 @@
 ghost use Rattle.std.specs.Prelude.{◌≡◌, ◌≤◌, ◌+◌, ◌++◌, length, OnOk};
 ghost use Rattle.pfr_flat.specs.Translations as spec;
 
-use pfr_ruleset::{
-    Comparison, FlatTranslation, PacketMatch, PortMatch, RangeOperator, TranslationRules,
-};
+use pfr_net::{Comparison, PortMatch, RangeOperator};
+use pfr_ruleset::{FlatTranslation, PacketMatch, TranslationRules};
 use std::alloc::AllocError;
 
 /// Puts a translation rule for each match behind the others, numbered on from `number`. All have the line of the rule.

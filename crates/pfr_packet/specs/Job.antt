@@ -33,6 +33,11 @@ pub record RunJob : Type 0 where
   pub seed : List ℕ
   pub rules : Ruleset
 
+-- a job of a ruleset's text, the interfaces, the networks whose packets go out, and a seed
+abbrev pub HasInputs : List ℕ → List Interface → List Net → List ℕ → RunJob → Type 0
+HasInputs text interfaces inside seed job =
+    (job.text ≡ text) × (job.interfaces ≡ interfaces) × (job.inside ≡ inside) × (job.seed ≡ seed)
+
 -- a job with defaults: no network is excepted, no link-level address is known, and packets are captured on the side of
 -- the stack
 pub record HasDefaults (job : RunJob) : Type 0 where

@@ -3,7 +3,7 @@ use Rattle.std.specs.Prelude.{◌≡◌, ◌⊎◌, ◌↔◌, ◌<◌, ◌≤�
 use Rattle.std.specs.List.{Contains, slice_get, All, count_by}
 use Rattle.pfr_net.specs.declared.interface.Binding.TheVariants as binding
 use Rattle.pfr_net.specs.declared.interface.InterfacePlace.{InterfacePlace}
-use Rattle.pfr_ruleset.specs.declared.policy.StatePolicy.{StatePolicy}
+use Rattle.pfr_net.specs.declared.policy.StatePolicy.{StatePolicy}
 use Rattle.pfr_ruleset.specs.declared.ruleset.Ruleset.{Ruleset}
 use Rattle.pfr_ruleset.specs.Translations.{HaveOwnNumbers}
 use Rattle.pfr_packet.specs.Passages.{binding_by}

@@ -10,8 +10,8 @@ use Rattle.pfr_net.specs.declared.interface.Binding.TheVariants.{All, To}
 use Rattle.pfr_net.specs.declared.interface.InterfacePlace.{InterfacePlace}
 use Rattle.pfr_net.specs.declared.rule_number.RuleNumber.{RuleNumber}
 use Rattle.pfr_ruleset.specs.declared.flat.StateRule.{StateRule}
-use Rattle.pfr_ruleset.specs.declared.policy.StatePolicy.{StatePolicy}
-use Rattle.pfr_ruleset.specs.declared.policy.StatePolicy.TheVariants.{IfBound, Floating}
+use Rattle.pfr_net.specs.declared.policy.StatePolicy.{StatePolicy}
+use Rattle.pfr_net.specs.declared.policy.StatePolicy.TheVariants.{IfBound, Floating}
 use Rattle.pfr_ruleset.specs.declared.ruleset.Ruleset.{Ruleset}
 use Rattle.pfr_headers.specs.declared.packet.Packet.{Packet}
 use Rattle.pfr_headers.specs.declared.transport.Transport.{Transport}

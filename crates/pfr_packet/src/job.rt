@@ -96,7 +96,7 @@ impl Job {
         inside: &[Net],
         seed: [u8; 32],
     ) -> Result<Job, ConfError>
-        ensures inputs { IfOk result (λ j. (j.text ≡ text.now) × (j.interfaces ≡ interfaces.now) × (j.inside ≡ inside.now) × (j.seed ≡ seed)) }
+        ensures inputs { IfOk result (spec.HasInputs text.now interfaces.now inside.now seed) }
         ensures settings { IfOk result spec.HasDefaults }
         ensures meaning { IfOk result (λ job. ruleset_of text.now interfaces.now ≡ Ok job.rules) }
         ensures fault { IfErr result (λ fault. Gives (ruleset_of text.now interfaces.now) (Err fault)) }
@@ -116,7 +116,7 @@ impl Job {
         rules: Ruleset,
     ) -> Result<Job, ConfError>
         requires { ruleset_of text.now interfaces.now ≡ Ok rules }
-        ensures inputs { IfOk result (λ j. (j.text ≡ text.now) × (j.interfaces ≡ interfaces.now) × (j.inside ≡ inside.now) × (j.seed ≡ seed)) }
+        ensures inputs { IfOk result (spec.HasInputs text.now interfaces.now inside.now seed) }
         ensures settings { IfOk result spec.HasDefaults }
         ensures meaning { IfOk result (λ job. job.rules ≡ rules) }
         ensures memory { IfErr result (λ fault. (fault.kind ≡ Memory) × (fault.line ≡ 0)) }
@@ -133,7 +133,7 @@ impl Job {
     /// A job with these inputs, and the ruleset that they mean.
     fn by(alloc: Global, inputs: Inputs, seed: [u8; 32], rules: Ruleset) -> Job
         requires { ruleset_of inputs.text inputs.interfaces ≡ Ok rules }
-        ensures inputs { (result.text ≡ inputs.text) × (result.interfaces ≡ inputs.interfaces) × (result.inside ≡ inputs.inside) × (result.seed ≡ seed) }
+        ensures inputs { spec.HasInputs inputs.text inputs.interfaces inputs.inside seed result }
         ensures settings { spec.HasDefaults result }
         ensures meaning { result.rules ≡ rules }
     {

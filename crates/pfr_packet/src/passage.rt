@@ -4,9 +4,9 @@ ghost use Rattle.pfr_packet.specs.Passages as spec;
 
 use crate::keys::{end_of, endpoint, translated_end};
 use pfr_headers::{Packet, Transport};
-use pfr_net::{Binding, Direction, Endpoint, InterfacePlace, Ipv4Address, RuleNumber};
+use pfr_net::{Binding, Direction, Endpoint, InterfacePlace, Ipv4Address, RuleNumber, StatePolicy};
 use pfr_rules::{Hit, PortMapping};
-use pfr_ruleset::{StatePolicy, StateRule};
+use pfr_ruleset::StateRule;
 use pfr_track::{Key, StateRules};
 
 /// Both keys of a packet that begins a connection, and the translation rule that makes one of the other.

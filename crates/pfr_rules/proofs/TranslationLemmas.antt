@@ -4,9 +4,9 @@ use Rattle.pfr_net.specs.declared.address.Ipv4Address.{Ipv4Address}
 use Rattle.pfr_net.specs.declared.direction.Direction.TheVariants.{In, Out}
 use Rattle.pfr_ruleset.specs.declared.flat.FlatTranslation.{FlatTranslation}
 use Rattle.pfr_ruleset.specs.declared.flat.PortChange.TheVariants.{From}
-use Rattle.pfr_ruleset.specs.declared.port.Comparison.TheVariants.{Equal}
-use Rattle.pfr_ruleset.specs.declared.port.PortMatch.TheVariants.{Compare, Range}
-use Rattle.pfr_ruleset.specs.declared.port.RangeOperator.TheVariants.{Inclusive}
+use Rattle.pfr_net.specs.declared.port_match.Comparison.TheVariants.{Equal}
+use Rattle.pfr_net.specs.declared.port_match.PortMatch.TheVariants.{Compare, Range}
+use Rattle.pfr_net.specs.declared.port_match.RangeOperator.TheVariants.{Inclusive}
 use Rattle.pfr_headers.specs.declared.packet.Packet.{Packet}
 use Rattle.pfr_criteria.specs.Laws.{IsBinat}
 use Rattle.pfr_rules.specs.declared.hit.NewEnd.TheVariants.{Mapped}

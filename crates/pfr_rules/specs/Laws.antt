@@ -11,9 +11,9 @@ use Rattle.pfr_ruleset.specs.declared.ruleset.Ruleset.{Ruleset}
 use Rattle.pfr_ruleset.specs.declared.flat.FlatRule.{FlatRule}
 use Rattle.pfr_ruleset.specs.declared.flat.FlatTranslation.{FlatTranslation}
 use Rattle.pfr_ruleset.specs.declared.flat.PortChange.TheVariants.{From}
-use Rattle.pfr_ruleset.specs.declared.port.Comparison.TheVariants.{Equal}
-use Rattle.pfr_ruleset.specs.declared.port.PortMatch.TheVariants.{Compare, Range}
-use Rattle.pfr_ruleset.specs.declared.port.RangeOperator.TheVariants.{Inclusive}
+use Rattle.pfr_net.specs.declared.port_match.Comparison.TheVariants.{Equal}
+use Rattle.pfr_net.specs.declared.port_match.PortMatch.TheVariants.{Compare, Range}
+use Rattle.pfr_net.specs.declared.port_match.RangeOperator.TheVariants.{Inclusive}
 use Rattle.pfr_ruleset.specs.Translations.{HaveOwnNumbers}
 use Rattle.pfr_headers.specs.declared.packet.Packet.{Packet}
 use Rattle.pfr_criteria.specs.Laws.{IsBinat}

@@ -19,8 +19,8 @@ use Rattle.pfr_ruleset.specs.declared.flat.PortChange.TheVariants as change
 use Rattle.pfr_ruleset.specs.declared.flat.RdrAddress.{RdrAddress}
 use Rattle.pfr_ruleset.specs.declared.hosts.HostSet.{HostSet}
 use Rattle.pfr_ruleset.specs.declared.hosts.HostSet.TheVariants as set
-use Rattle.pfr_ruleset.specs.declared.port.PortMatch.{PortMatch}
-use Rattle.pfr_ruleset.specs.declared.port.PortMatch.TheVariants as port
+use Rattle.pfr_net.specs.declared.port_match.PortMatch.{PortMatch}
+use Rattle.pfr_net.specs.declared.port_match.PortMatch.TheVariants as port
 use Rattle.pfr_ruleset.specs.declared.ruleset.Ruleset.{Ruleset}
 use Rattle.pfr_headers.specs.declared.packet.Packet.{Packet}
 use Rattle.pfr_criteria.specs.Translations as criteria

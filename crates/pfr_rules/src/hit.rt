@@ -2,8 +2,8 @@
 ghost use Rattle.std.specs.Prelude.{◌≡◌};
 ghost use Rattle.pfr_rules.specs.Translating as spec;
 
-use pfr_net::{Ipv4Address, Port, RuleNumber};
-use pfr_ruleset::{NatAddress, PortChange, PortMatch};
+use pfr_net::{Ipv4Address, Port, PortMatch, RuleNumber};
+use pfr_ruleset::{NatAddress, PortChange};
 
 /// The port behind a translation, by the port before it.
 #[derive(Clone, Copy)]

@@ -2,8 +2,8 @@
 use Rattle.std.specs.Prelude.{[]}
 use Rattle.pfr_net.specs.Timeouts.{default_timeouts}
 use Rattle.pfr_ruleset.specs.declared.options.Options as O
-use Rattle.pfr_ruleset.specs.declared.policy.BlockPolicy.TheVariants as b
-use Rattle.pfr_ruleset.specs.declared.policy.StatePolicy.TheVariants as policy
+use Rattle.pfr_net.specs.declared.policy.BlockPolicy.TheVariants as b
+use Rattle.pfr_net.specs.declared.policy.StatePolicy.TheVariants as policy
 
 -- what holds if nothing is set
 abbrev pub default_options : O.Options

@@ -9,10 +9,10 @@ use Rattle.pfr_ruleset.specs.declared.flat.PacketMatch.{PacketMatch}
 use Rattle.pfr_ruleset.specs.declared.hosts.HostCriterion.{HostCriterion}
 use Rattle.pfr_ruleset.specs.declared.hosts.HostSet.{HostSet}
 use Rattle.pfr_ruleset.specs.declared.hosts.HostSet.TheVariants as set
-use Rattle.pfr_ruleset.specs.declared.icmp.IcmpMatch.{IcmpMatch}
-use Rattle.pfr_ruleset.specs.declared.port.PortMatch.{PortMatch}
-use Rattle.pfr_ruleset.specs.declared.port.PortMatch.TheVariants as port
-use Rattle.pfr_ruleset.specs.declared.port.Comparison.TheVariants as comparison
+use Rattle.pfr_net.specs.declared.icmp_match.IcmpMatch.{IcmpMatch}
+use Rattle.pfr_net.specs.declared.port_match.PortMatch.{PortMatch}
+use Rattle.pfr_net.specs.declared.port_match.PortMatch.TheVariants as port
+use Rattle.pfr_net.specs.declared.port_match.Comparison.TheVariants as comparison
 use Rattle.pfr_ruleset.specs.declared.shape.Pins.{Pins}
 use Rattle.pfr_ruleset.specs.declared.shape.Shape.{Shape}
 

@@ -5,8 +5,7 @@ ghost use Rattle.pfr_ruleset.specs.Criteria as spec;
 use crate::flat::{FlatRule, FlatTranslation, PacketMatch};
 use crate::hosts::HostCriterion;
 use crate::interface::InterfaceCriterion;
-use crate::port::PortMatch;
-use pfr_net::{Direction, Protocol};
+use pfr_net::{Direction, PortMatch, Protocol};
 
 /// What a rule asks for at the criteria by which rules are compared.
 #[derive(Clone, Copy)]

@@ -1,11 +1,7 @@
 //! Flat rules and anchors, of which each asks for one thing of a kind.
-use crate::flags::FlagSet;
 use crate::hosts::{HostCriterion, HostSet};
-use crate::icmp::IcmpMatch;
 use crate::interface::InterfaceCriterion;
-use crate::policy::StatePolicy;
-use crate::port::PortMatch;
-use pfr_net::{Direction, Ipv4Address, Protocol};
+use pfr_net::{Direction, FlagSet, IcmpMatch, Ipv4Address, PortMatch, Protocol, StatePolicy};
 
 /// What a packet must meet for a flat rule or anchor, but for its direction. `None` asks for nothing.
 #[derive(Clone, Copy, PartialEq, Eq)]

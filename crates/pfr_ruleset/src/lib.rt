@@ -9,18 +9,14 @@
 pub mod aids;
 pub mod criterion;
 pub mod filter_rules;
-pub mod flags;
 pub mod flat;
 pub mod hosts;
-pub mod icmp;
 pub mod index;
 pub mod interface;
 pub mod label;
 pub mod laws;
 pub mod network;
 pub mod options;
-pub mod policy;
-pub mod port;
 pub mod ruleset;
 pub mod shape;
 pub mod skips;
@@ -32,19 +28,15 @@ pub mod translations;
 pub use aids::{Aids, FilterAids};
 pub use criterion::{Asked, Criterion};
 pub use filter_rules::{FilterRules, RuleLists, put_anchors};
-pub use flags::FlagSet;
 pub use flat::{
     ANYONE, FilterAction, FlagsCriterion, FlatAnchor, FlatRule, FlatTranslation, NO_MATCH,
     NatAddress, PacketMatch, PortChange, PortRange, RdrAddress, StateRule,
 };
 pub use hosts::{HostCriterion, HostSet};
-pub use icmp::IcmpMatch;
 pub use index::{Index, MOST_SHAPES};
 pub use interface::{Interface, InterfaceCriterion, OWN_ADDRESSES};
 pub use label::Label;
 pub use options::Options;
-pub use policy::{BlockPolicy, StatePolicy};
-pub use port::{Comparison, PortMatch, RangeOperator};
 pub use ruleset::Ruleset;
 pub use shape::{Pins, Shape};
 pub use skips::Skips;

@@ -2,9 +2,8 @@
 ghost use Rattle.std.specs.Prelude.{◌≡◌};
 ghost use Rattle.pfr_ruleset.specs.Options as spec;
 
-use crate::policy::{BlockPolicy, StatePolicy};
 use pfr_items::Items;
-use pfr_net::{IfName, Timeouts};
+use pfr_net::{BlockPolicy, IfName, StatePolicy, Timeouts};
 use std::alloc::Global;
 
 /// What the options of a ruleset say.

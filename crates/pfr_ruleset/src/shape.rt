@@ -5,10 +5,8 @@ ghost use Rattle.pfr_ruleset.specs.Shapes as spec;
 use crate::criterion::Asked;
 use crate::flat::PacketMatch;
 use crate::hosts::{HostCriterion, HostSet};
-use crate::icmp::IcmpMatch;
-use crate::port::{Comparison, PortMatch};
 use pfr_net::network::prefix;
-use pfr_net::{Net, Protocol};
+use pfr_net::{Comparison, IcmpMatch, Net, PortMatch, Protocol};
 
 /// Which parts of a packet a rule pins to one value: its protocol, its ICMP type, the first bits of an address, a port.
 #[derive(Clone, Copy, PartialEq, Eq, PartialOrd, Ord)]

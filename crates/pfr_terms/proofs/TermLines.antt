@@ -1,10 +1,10 @@
 -- The readers of lists, addresses, ports and other terms have their faults on lines of the text.
 use Rattle.std.proofs.Common.{ℕ, List, Option, Some, None, Result, Ok, Err, codes, if◌then◌else◌}
 use Rattle.pfr_net.specs.declared.address.Ipv4Address.{Ipv4Address}
-use Rattle.pfr_ruleset.specs.declared.port.PortMatch.{PortMatch}
-use Rattle.pfr_ruleset.specs.declared.port.PortMatch.TheVariants.{Compare, Range}
-use Rattle.pfr_ruleset.specs.declared.port.Comparison.{Comparison}
-use Rattle.pfr_ruleset.specs.declared.port.RangeOperator.{RangeOperator}
+use Rattle.pfr_net.specs.declared.port_match.PortMatch.{PortMatch}
+use Rattle.pfr_net.specs.declared.port_match.PortMatch.TheVariants.{Compare, Range}
+use Rattle.pfr_net.specs.declared.port_match.Comparison.{Comparison}
+use Rattle.pfr_net.specs.declared.port_match.RangeOperator.{RangeOperator}
 use Rattle.pfr_words.specs.declared.sign.Sign.TheVariants as s
 use Rattle.pfr_terms.specs.declared.name.MacroUse.{MacroUse}
 use Rattle.pfr_terms.specs.declared.name.Written.{Written}

@@ -2,11 +2,11 @@
 use Rattle.std.proofs.Common.{◌≡◌, ℕ, suc, Bool, true, false, List, ◌∷◌, [], Option, Some, None, Result, Ok, Err, codes, if◌then◌else◌, ap, refl}
 use Rattle.pfr_net.specs.declared.address.Ipv4Address.{Ipv4Address}
 use Rattle.pfr_net.specs.declared.protocol.Protocol.{Protocol}
-use Rattle.pfr_ruleset.specs.declared.port.PortMatch.{PortMatch}
-use Rattle.pfr_ruleset.specs.declared.port.PortMatch.TheVariants.{Compare, Range}
-use Rattle.pfr_ruleset.specs.declared.port.Comparison.{Comparison}
-use Rattle.pfr_ruleset.specs.declared.port.RangeOperator.{RangeOperator}
-use Rattle.pfr_ruleset.specs.declared.icmp.IcmpMatch.{IcmpMatch}
+use Rattle.pfr_net.specs.declared.port_match.PortMatch.{PortMatch}
+use Rattle.pfr_net.specs.declared.port_match.PortMatch.TheVariants.{Compare, Range}
+use Rattle.pfr_net.specs.declared.port_match.Comparison.{Comparison}
+use Rattle.pfr_net.specs.declared.port_match.RangeOperator.{RangeOperator}
+use Rattle.pfr_net.specs.declared.icmp_match.IcmpMatch.{IcmpMatch}
 use Rattle.pfr_words.specs.declared.sign.Sign.{Sign}
 use Rattle.pfr_words.specs.declared.sign.Sign.TheVariants as s
 use Rattle.pfr_words.specs.declared.word.Token.{Token}

@@ -1,12 +1,12 @@
 -- Ports, as pf.conf(5) writes them.
 use Rattle.std.specs.Prelude.{ℕ, nat_le, if◌then◌else◌, List, Option, Some, None, Result, Ok, Err, codes}
 use Rattle.pfr_net.specs.Notation.{number, cut_at}
-use Rattle.pfr_ruleset.specs.declared.port.Comparison.{Comparison}
-use Rattle.pfr_ruleset.specs.declared.port.Comparison.TheVariants as c
-use Rattle.pfr_ruleset.specs.declared.port.RangeOperator.{RangeOperator}
-use Rattle.pfr_ruleset.specs.declared.port.RangeOperator.TheVariants as r
-use Rattle.pfr_ruleset.specs.declared.port.PortMatch.{PortMatch}
-use Rattle.pfr_ruleset.specs.declared.port.PortMatch.TheVariants.{Compare, Range}
+use Rattle.pfr_net.specs.declared.port_match.Comparison.{Comparison}
+use Rattle.pfr_net.specs.declared.port_match.Comparison.TheVariants as c
+use Rattle.pfr_net.specs.declared.port_match.RangeOperator.{RangeOperator}
+use Rattle.pfr_net.specs.declared.port_match.RangeOperator.TheVariants as r
+use Rattle.pfr_net.specs.declared.port_match.PortMatch.{PortMatch}
+use Rattle.pfr_net.specs.declared.port_match.PortMatch.TheVariants.{Compare, Range}
 use Rattle.pfr_words.specs.declared.sign.Sign.{Sign}
 use Rattle.pfr_words.specs.declared.sign.Sign.TheVariants as s
 use Rattle.pfr_words.specs.Names.{service_named}

@@ -4,8 +4,8 @@ use Rattle.std.specs.Str.{bytes_eq}
 use Rattle.std.specs.Option.{option_and_then}
 use Rattle.pfr_net.specs.declared.protocol.Protocol.{Protocol}
 use Rattle.pfr_net.specs.Notation.{cut_at}
-use Rattle.pfr_ruleset.specs.declared.flags.FlagSet.{FlagSet}
-use Rattle.pfr_ruleset.specs.declared.icmp.IcmpMatch.{IcmpMatch}
+use Rattle.pfr_net.specs.declared.flag_set.FlagSet.{FlagSet}
+use Rattle.pfr_net.specs.declared.icmp_match.IcmpMatch.{IcmpMatch}
 use Rattle.pfr_words.specs.declared.sign.Sign.TheVariants as s
 use Rattle.pfr_words.specs.Names.{protocol_named, icmp_type_named}
 use Rattle.pfr_terms.specs.declared.flags.FlagsMatch.{FlagsMatch}

@@ -5,8 +5,8 @@ ghost use Rattle.pfr_terms.specs.Input.{Reads};
 
 use crate::error::ConfError;
 use crate::reader::Reader;
+use pfr_net::FlagSet;
 use pfr_net::notation::cut;
-use pfr_ruleset::FlagSet;
 use pfr_words::Bytes;
 use std::alloc::Global;
 

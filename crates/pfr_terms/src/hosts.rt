@@ -9,8 +9,7 @@ use crate::lists::list;
 use crate::name::Written;
 use crate::reader::Reader;
 use pfr_items::Items;
-use pfr_net::Protocol;
-use pfr_ruleset::PortMatch;
+use pfr_net::{PortMatch, Protocol};
 use std::alloc::Global;
 
 /// One end of a packet: `LIST port LIST`. The addresses or the ports may be missing.

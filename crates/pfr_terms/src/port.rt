@@ -7,7 +7,7 @@ use crate::error::{ConfError, ConfErrorKind};
 use crate::lists::Item;
 use crate::reader::{Reader, is_free};
 use pfr_net::notation::{cut, number};
-use pfr_ruleset::{Comparison, PortMatch, RangeOperator};
+use pfr_net::{Comparison, PortMatch, RangeOperator};
 use pfr_words::Sign;
 use pfr_words::names::service_named;
 use std::alloc::{AllocError, Global};

@@ -3,7 +3,7 @@ ghost use Rattle.std.specs.Prelude.{◌≤◌, IfOk};
 ghost use Rattle.pfr_commit.specs.Books.{StandsAt, job_of};
 ghost use Rattle.pfr_commit.specs.World.{opening};
 
-use pfr_capture::{Mem, Record, Sink, Source};
+use pfr_capture::{Mem, Record, Source};
 use pfr_commit::Book;
 use pfr_net::{IfName, Ipv4Address, Net};
 use pfr_out::{Form, Gate, PacketSinks, Report, Settings, Sinks, Sources, Stop, replay};
@@ -97,7 +97,7 @@ fn only_sink<S: Drop>(alloc: Global, sink: S) -> Result<PacketSinks<S>, AllocErr
 }
 
 /// Outputs in memory, with this device for the verdicts.
-pub(crate) fn sinks(alloc: Global, verdicts: Mem) -> Result<Sinks<Mem>, AllocError> {
+fn sinks(alloc: Global, verdicts: Mem) -> Result<Sinks<Mem>, AllocError> {
     Ok(Sinks {
         verdicts,
         packets: only_sink(alloc, Mem::new(Vec::new(alloc)))?,
@@ -107,20 +107,16 @@ pub(crate) fn sinks(alloc: Global, verdicts: Mem) -> Result<Sinks<Mem>, AllocErr
     })
 }
 
-/// Replays a capture by these rules, `batch` packets at a time and with `workers` workers. It gives its source back.
-pub(crate) fn replay_into<
-    R: AllocGlobal + Threads + Wait + Sync,
-    S: Source + Drop,
-    O: Sink,
-    G: Gate,
->(
+/// Replays a capture by these rules, `batch` packets at a time and with `workers` workers. Its outputs are in memory, and this device
+/// is that of the verdicts. It gives its source back.
+pub(crate) fn replay_into<R: AllocGlobal + Threads + Wait + Sync, S: Source + Drop, G: Gate>(
     rt: &R,
     source: S,
     rules: &[u8],
     batch: usize,
     workers: u64,
     form: Form,
-    outputs: &mut Sinks<O>,
+    verdicts: Mem,
     gate: &G,
 ) -> Result<(Result<Report, Stop>, S), AllocError>
     requires batch { (1 ≤ batch) × (batch ≤ 4096) }
@@ -128,6 +124,7 @@ pub(crate) fn replay_into<
 {
     let mut sources = Vec::new(rt.alloc());
     sources.push(source)?;
+    let mut outputs = sinks(rt.alloc(), verdicts)?;
     let mut sources = Sources::new(sources);
     let interfaces = interfaces();
     let settings = Settings {
@@ -137,7 +134,16 @@ pub(crate) fn replay_into<
         workers,
         form,
     };
-    let end = replay(rt, &mut sources, rules, [0; 32], &settings, outputs, gate);
+    let end = replay(
+        rt,
+        &mut sources,
+        rules,
+        [0; 32],
+        &settings,
+        &mut outputs,
+        gate,
+    );
+    drop(outputs);
     match sources.into_vec().pop() {
         Some(source) => Ok((end, source)),
         None => Err(AllocError),

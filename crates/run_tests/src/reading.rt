@@ -1,7 +1,7 @@
 //! How far a source is read ahead of what is written.
 ghost use Rattle.std.specs.Prelude.{◌≤◌};
 
-use crate::inputs::{capture, replay_into, sinks};
+use crate::inputs::{capture, replay_into};
 use crate::told::rules;
 use crate::turns::{Freely, Turns};
 use pfr_capture::{Fault, Mem, Source};
@@ -48,7 +48,6 @@ fn reads_ahead(rt: HostRuntime) -> Result<(), Fail> {
         capture: capture(alloc, 10, 0)?,
         reads: 0,
     };
-    let mut outputs = sinks(alloc, Mem::new(Vec::new(alloc)).failing_after(0))?;
     let (end, source) = replay_into(
         &rt,
         source,
@@ -56,12 +55,11 @@ fn reads_ahead(rt: HostRuntime) -> Result<(), Fail> {
         1,
         2,
         Form::File,
-        &mut outputs,
+        Mem::new(Vec::new(alloc)).failing_after(0),
         &Turns::by(&rt, Freely),
     )?;
     let reads = source.reads;
     drop(source);
-    drop(outputs);
     assert!(rt; matches!(&end, Err(Stop::Write(Output::Verdicts, 0))));
     assert!(rt; reads <= 4, "{reads} reads");
     Ok(())
@@ -80,9 +78,6 @@ fn makes_all_reads<R: AllocGlobal + Threads + Wait + Clock + Sync>(
     requires batch { (1 ≤ batch) × (batch ≤ 4096) }
     requires workers { workers ≤ 64 }
 {
-    let alloc = rt.alloc();
-    let verdicts = Mem::new(Vec::new(alloc)).failing_after(writes);
-    let mut outputs = sinks(alloc, verdicts)?;
     let (end, mut source) = replay_into(
         rt,
         source,
@@ -90,7 +85,7 @@ fn makes_all_reads<R: AllocGlobal + Threads + Wait + Clock + Sync>(
         batch,
         workers,
         Form::File,
-        &mut outputs,
+        Mem::new(Vec::new(rt.alloc())).failing_after(writes),
         &Turns::by(rt, Freely),
     )?;
     let taken = writes.saturating_mul(batch as u64);
@@ -98,7 +93,6 @@ fn makes_all_reads<R: AllocGlobal + Threads + Wait + Clock + Sync>(
         matches!(&end, Err(Stop::Write(Output::Verdicts, committed)) if *committed == taken);
     let read = source.read(&mut [0; 44]).is_err();
     drop(source);
-    drop(outputs);
     Ok(stops && read)
 }
 

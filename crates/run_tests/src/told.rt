@@ -1,7 +1,7 @@
 //! Which packets of a run workers evaluate, and which the committer does.
 ghost use Rattle.std.specs.Prelude.{◌≤◌};
 
-use crate::inputs::{capture, replay_into, sinks};
+use crate::inputs::{capture, replay_into};
 use crate::turns::{Freely, Turns};
 use pfr_capture::Mem;
 use pfr_out::{Form, Gate};
@@ -36,7 +36,6 @@ fn told_by<R: AllocGlobal + Threads + Wait + Clock + Sync>(
 {
     let alloc = rt.alloc();
     let source = capture(alloc, packets, packets)?;
-    let mut outputs = sinks(alloc, Mem::new(Vec::new(alloc)))?;
     let turns = Turns::by(rt, Freely);
     let (end, source) = replay_into(
         rt,
@@ -45,12 +44,11 @@ fn told_by<R: AllocGlobal + Threads + Wait + Clock + Sync>(
         batch,
         workers,
         Form::None,
-        &mut outputs,
+        Mem::new(Vec::new(alloc)),
         &turns,
     )?;
-    let seen = turns.told();
     drop(source);
-    drop(outputs);
+    let seen = turns.told();
     match end {
         Ok(_) => Ok((seen.starts.sum, seen.answered.sum, seen.again.sum)),
         Err(_) => Err(AllocError),
@@ -196,7 +194,6 @@ fn most_at_once<R: AllocGlobal + Threads + Wait + Clock + Sync>(
 {
     let alloc = rt.alloc();
     let source = capture(alloc, 3072, 3072)?;
-    let mut outputs = sinks(alloc, Mem::new(Vec::new(alloc)))?;
     let gate = AtOnce {
         rt,
         first: 1025,
@@ -210,11 +207,10 @@ fn most_at_once<R: AllocGlobal + Threads + Wait + Clock + Sync>(
         1024,
         workers,
         Form::None,
-        &mut outputs,
+        Mem::new(Vec::new(alloc)),
         &gate,
     )?;
     drop(source);
-    drop(outputs);
     match end {
         Ok(_) => Ok(gate.most.load(Ordering::SeqCst)),
         Err(_) => Err(AllocError),

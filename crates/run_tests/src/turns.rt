@@ -5,8 +5,9 @@ use std::sync::atomic::{AtomicU64, Ordering};
 use std::thread::sleep;
 use std::time::{Clock, Duration};
 
-/// The most turns that a call waits, of 50 microseconds or more each.
-const TURNS: u32 = 40_000;
+/// The most turns that a call waits, of 50 microseconds or more each. A machine that others use too may leave one of two
+/// threads alone for some seconds.
+const TURNS: u32 = 400_000;
 
 /// The milliseconds within which a run whose piece wasn't taken whole has its workers stop, however busy the machine
 /// is.
