@@ -6,17 +6,17 @@ _pfreplay_flags() {
     local ways='--inside --mac --tap'
     local surroundings='--interface-address --group --hosts --services --table --include'
     local outputs='--verdicts --packets --counters --states --messages --peer'
-    local choices='--only --rule --line --host --logged'
+    local choices='--only --rule --line --host --port --proto --logged'
     case $1 in
         run) echo "--help $ruleset --adapt $surroundings $ways $outputs --seed --batch --workers --warn --progress" ;;
         check) echo "--help $ruleset --adapt $surroundings" ;;
         adapt) echo "--help $ruleset $surroundings" ;;
         standby) echo '--help --messages --listen' ;;
         states) echo '--help --json' ;;
-        rules) echo "--help $ruleset --adapt $surroundings --counters" ;;
-        diff) echo "--help $ruleset --adapt $surroundings $ways --seed --verdicts --progress" ;;
+        rules) echo "--help $ruleset --adapt $surroundings --counters --format" ;;
+        diff) echo "--help $ruleset --adapt $surroundings $ways --seed --verdicts --format --quiet --progress" ;;
         show) echo "--help $ruleset --adapt $surroundings $choices --count --format" ;;
-        report) echo "--help $ruleset --adapt $surroundings --states --progress" ;;
+        report) echo "--help $ruleset --adapt $surroundings --states --quiet --progress" ;;
         '') echo '--help --version' ;;
     esac
 }
@@ -61,10 +61,16 @@ _pfreplay_value() {
         --table | --include) [[ $3 != *=* ]] || _pfreplay_files "$4" ;;
         --also) _pfreplay_also "$1" "$3" "$4" ;;
         --tap) _pfreplay_words 'stack wire' "$4" ;;
-        --format) _pfreplay_words 'text json pflog' "$4" ;;
+        --format)
+            case $1 in
+                rules | diff) _pfreplay_words 'text json' "$4" ;;
+                *) _pfreplay_words 'text json pflog' "$4" ;;
+            esac
+            ;;
         --only) _pfreplay_listed 'pass block return skip' "$4" ;;
         --interface | --address | --inside | --mac | --seed | --batch | --workers | --peer | --listen) ;;
-        --interface-address | --group | --rule | --line | --host) ;;
+        --interface-address | --group | --rule | --line | --host | --port) ;;
+        --proto) _pfreplay_words 'icmp igmp tcp udp gre esp ah' "$4" ;;
         *) return 1 ;;
     esac
 }

@@ -2,25 +2,22 @@
 use pfr_command::{Asked, CommandName, command_of, parse};
 use pfr_files::{Counted, Failure, REFUSED, TROUBLE, print, report};
 use pfr_notices::Meter;
-use pfr_runs::{adapt, check, replay, stand_by};
+use pfr_runs::{Host, adapt, check, replay, stand_by};
 use pfr_values::Refused;
 use pfr_views::{list_states, report_on, show_packets, tell_changes, tell_rules};
-use std::alloc::{AllocError, AllocGlobal};
+use std::alloc::AllocError;
 use std::io::{Read, Write};
-use std::net::Net;
-use std::rt::Files;
-use std::sync::Wait;
-use std::thread::Threads;
 
 /// Does what the words ask, the program's name first among them, and answers the status to end with. What
 /// is wrong goes to `err`, in one line. The meter says how far a command has come, if the words ask for that.
-pub fn run<
-    R: Files + Net + AllocGlobal + Threads + Wait + Sync,
-    I: Read + Drop,
-    O: Write + Copy,
-    E: Write,
-    M: Meter,
->(rt: &R, words: &[String], input: I, out: &mut O, err: &mut E, meter: &M) -> u8 {
+pub fn run<R: Host, I: Read + Drop, O: Write + Copy, E: Write, M: Meter>(
+    rt: &R,
+    words: &[String],
+    input: I,
+    out: &mut O,
+    err: &mut E,
+    meter: &M,
+) -> u8 {
     match parse(rt.alloc(), words) {
         Ok(asked) => {
             let ended = work(rt, &asked, input, out, err, meter);
@@ -77,14 +74,7 @@ fn counted_by(command: Option<CommandName>) -> Counted {
 }
 
 /// Does what is asked, and answers the status.
-fn work<
-    'a,
-    R: Files + Net + AllocGlobal + Threads + Wait + Sync,
-    I: Read + Drop,
-    O: Write + Copy,
-    E: Write,
-    M: Meter,
->(
+fn work<'a, R: Host, I: Read + Drop, O: Write + Copy, E: Write, M: Meter>(
     rt: &R,
     asked: &Asked<'a>,
     input: I,

@@ -1,11 +1,12 @@
 //! The commands of the program, with their words, flags and help.
+use crate::given::TEXT_OR_JSON;
 use crate::help::{
     ADAPT_EXAMPLE, CHECK_EXAMPLE, DIFF_EXAMPLE, MORE_OF_ADAPT, MORE_OF_DIFF, MORE_OF_PROGRAM,
     MORE_OF_REPORT, MORE_OF_RULES, MORE_OF_RUN, MORE_OF_SHOW, MORE_OF_STANDBY, MORE_OF_STATES,
     REPORT_EXAMPLE, RULES_EXAMPLE, RUN_EXAMPLE, SHOW_EXAMPLE, STANDBY_EXAMPLE, STATES_EXAMPLE,
     VERSIONS,
 };
-use crate::show::{FORMAT, HOST, NUMBER, VERDICTS};
+use crate::show::{FORMAT, HOST, NUMBER, PORT, PROTO, VERDICTS};
 use crate::table::{Beside, CommandName, Given, Part, Said, Word, command};
 use clap::Command;
 use pfr_values::{
@@ -180,6 +181,13 @@ const WARN: Word = Word {
     help: "Say on standard error what may mean that ruleset, captures and flags don't fit, and why a file can't be opened",
 };
 
+const QUIET: Word = Word {
+    name: "quiet",
+    given: Given::Switch,
+    beside: Beside::Any,
+    help: "Don't say on standard error what may mean that rulesets, captures and flags don't fit",
+};
+
 const PROGRESS: Word = Word {
     name: "progress",
     given: Given::Switch,
@@ -284,12 +292,20 @@ const RULES_COMMAND: Said = Said {
         Part::Words(&INTERFACE_WORDS),
         Part::Words(&[ALSO_NAMED, ADAPT]),
         WITH_ADAPT,
-        Part::Words(&[Word {
-            name: "counters",
-            given: Given::Optional(FILE),
-            beside: Beside::Any,
-            help: "The counters that a run with this ruleset wrote, to be printed behind the rules",
-        }]),
+        Part::Words(&[
+            Word {
+                name: "counters",
+                given: Given::Optional(FILE),
+                beside: Beside::Any,
+                help: "The counters that a run with this ruleset wrote, to be printed behind the rules",
+            },
+            Word {
+                name: "format",
+                given: Given::Optional(TEXT_OR_JSON),
+                beside: Beside::Any,
+                help: "How the rules are printed [default: text]",
+            },
+        ]),
     ],
 };
 
@@ -325,6 +341,13 @@ const DIFF_COMMAND: Said = Said {
                 beside: Beside::Any,
                 help: "Only packets whose verdict is another one",
             },
+            Word {
+                name: "format",
+                given: Given::Optional(TEXT_OR_JSON),
+                beside: Beside::Any,
+                help: "How the answer is printed [default: text]",
+            },
+            QUIET,
             PROGRESS,
             ADAPT,
         ]),
@@ -341,7 +364,7 @@ const VERDICTS_WORD: Word = Word {
 };
 
 /// Which packets are shown, and how.
-const SELECTION: [Word; 7] = [
+const SELECTION: [Word; 9] = [
     Word {
         name: "only",
         given: Given::Optional(VERDICTS),
@@ -365,6 +388,18 @@ const SELECTION: [Word; 7] = [
         given: Given::Optional(HOST),
         beside: Beside::Any,
         help: "Only packets from or to this address, or this network",
+    },
+    Word {
+        name: "port",
+        given: Given::Optional(PORT),
+        beside: Beside::Any,
+        help: "Only packets from or to this port",
+    },
+    Word {
+        name: "proto",
+        given: Given::Optional(PROTO),
+        beside: Beside::Any,
+        help: "Only packets of this protocol",
     },
     Word {
         name: "logged",
@@ -417,6 +452,7 @@ const REPORT_COMMAND: Said = Said {
                 beside: Beside::Any,
                 help: "The file of the states that run wrote, to be told by their ages",
             },
+            QUIET,
             PROGRESS,
         ]),
     ],

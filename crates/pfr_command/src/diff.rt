@@ -3,7 +3,7 @@ ghost use Rattle.std.specs.Prelude.{◌≡◌, IfOk, length};
 ghost use Rattle.std.proofs.Props.{props};
 ghost use Rattle.pfr_values.specs.Places.{ArePlaces};
 
-use crate::given::{given_captures, given_rules, given_seed};
+use crate::given::{given_as_json, given_captures, given_rules, given_seed};
 use crate::words::Asked;
 use clap::ArgMatches;
 use pfr_items::Items;
@@ -27,10 +27,15 @@ pub struct DiffWords<'a> {
     pub seed: [u8; 32],
     /// Whether another verdict alone is a change.
     pub verdicts_alone: bool,
+    /// Whether the answer is JSON.
+    pub as_json: bool,
+    /// Whether it is said what may mean that rulesets, captures and flags don't fit.
+    pub warns: bool,
     /// Whether it is said how far the command has come.
     pub progresses: bool,
     pub ghost one_each: { length ways.link_addresses ≡ length captures },
     pub ghost are_places: { ArePlaces old.interfaces captures } by { Prim.hlevel props },
+    pub ghost same_interfaces: { new.interfaces ≡ old.interfaces } by { Prim.hlevel props },
 }
 
 /// What the words behind `diff` ask for.
@@ -39,9 +44,10 @@ pub(crate) fn diff_words<'a>(
     matches: &ArgMatches<'a>,
 ) -> Result<Asked<'a>, Refused<'a>> {
     let seed = given_seed(matches)?;
+    let as_json = given_as_json(matches)?;
     let places = given_captures(alloc, matches)?;
     match given_ways(alloc, matches, places.captures.as_slice()) {
-        Ok(ways) => with_ways(alloc, matches, seed, places, ways),
+        Ok(ways) => with_ways(alloc, matches, seed, as_json, places, ways),
         Err(refused) => {
             drop(places);
             Err(refused)
@@ -54,6 +60,7 @@ fn with_ways<'a>(
     alloc: Global,
     matches: &ArgMatches<'a>,
     seed: [u8; 32],
+    as_json: bool,
     places: Places<'a>,
     ways: Ways,
 ) -> Result<Asked<'a>, Refused<'a>>
@@ -68,6 +75,8 @@ fn with_ways<'a>(
             ways,
             seed,
             verdicts_alone: matches.get_flag("verdicts"),
+            as_json,
+            warns: !matches.get_flag("quiet"),
             progresses: matches.get_flag("progress"),
         })),
         Err(refused) => {
@@ -90,7 +99,8 @@ fn both_rules<'a>(
     matches: &ArgMatches<'a>,
     interfaces: Items<Interface>,
 ) -> Result<Both<'a>, Refused<'a>>
-    ensures { IfOk result (λ both. both.old.interfaces ≡ interfaces) }
+    ensures old { IfOk result (λ both. both.old.interfaces ≡ interfaces) }
+    ensures new { IfOk result (λ both. both.new.interfaces ≡ interfaces) }
 {
     let adapts = matches.get_flag("adapt");
     let others = Items::copied(alloc, interfaces.as_slice())?;

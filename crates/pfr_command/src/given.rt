@@ -74,3 +74,27 @@ pub(crate) fn given_captures<'a>(
     let first = interface(name, given(matches, "address")?)?;
     places_of(alloc, first, words, AlsoForm::Compared, matches)
 }
+
+/// The form of the value behind `--format`, but for `show`.
+pub(crate) const TEXT_OR_JSON: &str = "text|json";
+
+/// Whether a word asks for JSON, and not for text.
+fn is_json<'a>(word: &'a str) -> Result<bool, Refused<'a>> {
+    match word {
+        "text" => Ok(false),
+        "json" => Ok(true),
+        _ => Err(Refused::BadValue {
+            flag: "--format",
+            form: TEXT_OR_JSON,
+            word,
+        }),
+    }
+}
+
+/// Whether the words ask for JSON.
+pub(crate) fn given_as_json<'a>(matches: &ArgMatches<'a>) -> Result<bool, Refused<'a>> {
+    match matches.get_str("format") {
+        Some(word) => is_json(word),
+        None => Ok(false),
+    }
+}

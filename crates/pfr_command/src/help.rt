@@ -89,10 +89,12 @@ pub(crate) const DIFF_EXAMPLE: &str = "Example:
       --inside 10.0.0.0/8,192.0.2.1";
 
 pub(crate) const MORE_OF_DIFF: &str =
-    "It prints a line for each flow of which packets come to something else, what they come to by both
-rulesets, how many there are, and the number of the first. LLINE is the line of the rule that
-decides. Then come sums. The status is 0 if no packet changes, 1 if one does, and more if the
-files can't be compared.
+    "It prints a line for each packet that comes to something else, unless it follows another one: of its
+flow, or by the state that another one made. The line has what it comes to by both rulesets, its
+number, and how many packets follow it. LLINE is the line of the rule that decides. Then come sums,
+and the rules that differ but that no packet could have asked, with the reason. The status is 0 if no
+packet changes, 1 if one does, 5 if none does and not all that differs could be asked, and 2 to 4 if
+the files can't be compared.
 
 In the place of the capture - is standard input.";
 

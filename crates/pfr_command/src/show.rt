@@ -4,14 +4,18 @@ ghost use Rattle.std.specs.List.{list_all, slice_split};
 ghost use Rattle.std.specs.Result.{result_ok};
 ghost use Rattle.pfr_net.specs.Networks.{net_of};
 ghost use Rattle.pfr_net.specs.Notation.{number};
+ghost use Rattle.pfr_terms.specs.Ports.{port_word};
+ghost use Rattle.pfr_words.specs.Names.{protocol_named};
 ghost use Rattle.pfr_command.specs.Shows as spec;
 
 use crate::joined::{JoinedWords, joined_words};
 use crate::words::Asked;
 use clap::ArgMatches;
-use pfr_net::{Net, notation};
+use pfr_net::{Net, Port, Protocol, notation};
 use pfr_show::{Form, Selection, Verdicts};
+use pfr_terms::port::{PortWord, port_word};
 use pfr_values::{Refused, parts_of};
+use pfr_words::names::protocol_named;
 use std::alloc::Global;
 
 /// The form of the value behind `--only`.
@@ -20,6 +24,10 @@ pub(crate) const VERDICTS: &str = "VERDICTS";
 pub(crate) const NUMBER: &str = "N";
 /// The form of the value behind `--host`.
 pub(crate) const HOST: &str = "A.B.C.D[/BITS]";
+/// The form of the value behind `--port`.
+pub(crate) const PORT: &str = "PORT";
+/// The form of the value behind `--proto`.
+pub(crate) const PROTO: &str = "PROTO";
 /// The form of the value behind `--format`.
 pub(crate) const FORMAT: &str = "text|json|pflog";
 
@@ -105,6 +113,47 @@ fn host<'a>(word: &'a str) -> Result<Net, Refused<'a>>
     })
 }
 
+/// The port that a word says, by the name of a service or as a number.
+fn port<'a>(word: &'a str) -> Result<Port, Refused<'a>>
+    ensures { result_ok result ≡ spec.port_of (port_word word.entry.now) }
+{
+    match port_word(word.as_bytes()) {
+        PortWord::Port(number) => Ok(Port(number)),
+        PortWord::OutOfRange | PortWord::Unknown => Err(Refused::BadValue {
+            flag: "--port",
+            form: PORT,
+            word,
+        }),
+    }
+}
+
+/// The number of the protocol that a word says, by its name or as a number.
+fn protocol_number(word: &[u8]) -> Option<u8>
+    ensures { result ≡ spec.protocol_number (protocol_named word.now) (number word.now) }
+{
+    match protocol_named(word) {
+        Some(named) => Some(named),
+        None => match notation::number(word) {
+            Some(number) if number <= 255 => Some(number as u8),
+            _ => None,
+        },
+    }
+}
+
+/// The protocol that a word says.
+fn protocol<'a>(word: &'a str) -> Result<Protocol, Refused<'a>>
+    ensures { result_ok result ≡ spec.protocol_of (spec.protocol_number (protocol_named word.entry.now) (number word.entry.now)) }
+{
+    match protocol_number(word.as_bytes()) {
+        Some(number) => Ok(Protocol(number)),
+        None => Err(Refused::BadValue {
+            flag: "--proto",
+            form: PROTO,
+            word,
+        }),
+    }
+}
+
 /// The form for a word.
 fn form<'a>(word: &'a str) -> Result<Form, Refused<'a>>
     ensures { result_ok result ≡ spec.form_of word.entry.now }
@@ -145,11 +194,21 @@ fn given_selection<'a>(alloc: Global, matches: &ArgMatches<'a>) -> Result<Select
         Some(word) => Some(host(word)?),
         None => None,
     };
+    let port = match matches.get_str("port") {
+        Some(word) => Some(port(word)?),
+        None => None,
+    };
+    let protocol = match matches.get_str("proto") {
+        Some(word) => Some(protocol(word)?),
+        None => None,
+    };
     Ok(Selection {
         verdicts,
         rule: given_count(matches, "rule", "--rule")?,
         line: given_count(matches, "line", "--line")?,
         host,
+        port,
+        protocol,
         logged: matches.get_flag("logged"),
     })
 }

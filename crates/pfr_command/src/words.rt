@@ -1,7 +1,7 @@
 //! The words of the command line.
 use crate::commands::command_line;
 use crate::diff::{DiffWords, diff_words};
-use crate::given::{given, given_interfaces, given_rules};
+use crate::given::{given, given_as_json, given_interfaces, given_rules};
 use crate::report::{ReportWords, report_words};
 use crate::run::{RunWords, run_words};
 use crate::show::{ShowWords, show_words};
@@ -66,6 +66,8 @@ pub struct RulesWords<'a> {
     pub rules: Request<'a>,
     /// The file with the counters of a run, if they are to be printed too.
     pub counters: Option<&'a str>,
+    /// Whether the rules are printed as JSON.
+    pub as_json: bool,
 }
 
 /// The words that the process was started with, the program's name first.
@@ -154,10 +156,12 @@ fn states_words<'a>(matches: &ArgMatches<'a>) -> Result<Asked<'a>, Refused<'a>> 
 /// What the words behind `rules` ask for.
 fn rules_words<'a>(alloc: Global, matches: &ArgMatches<'a>) -> Result<Asked<'a>, Refused<'a>> {
     let adapts = matches.get_flag("adapt");
+    let as_json = given_as_json(matches)?;
     let interfaces = given_interfaces(alloc, matches)?;
     Ok(Asked::Rules(RulesWords {
         rules: given_rules(alloc, matches, "RULES", adapts, interfaces)?,
         counters: matches.get_str("counters"),
+        as_json,
     }))
 }
 

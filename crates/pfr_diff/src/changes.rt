@@ -1,58 +1,66 @@
-//! The packets that come to something else, by flows and decisions.
-use crate::decision::{Decision, Meaning};
+//! The packets that come to something else, and those by which they do.
+use crate::decision::{Meaning, Pair};
 use pfr_capture::Record;
 use pfr_headers::View;
 use pfr_listing::Flow;
 use std::alloc::{AllocError, Global};
-use std::collections::BTreeMap;
+use std::collections::{BTreeMap, BTreeSet};
 
-/// Packets of one flow on one interface that come to one thing in the old run, and to another in the new one.
+/// A packet that changes, and that follows no other one.
 #[derive(Clone, Copy)]
-pub(crate) struct Change<'a> {
-    /// The place of the interface.
+pub(crate) struct Cause<'a> {
+    /// Its number.
+    pub(crate) number: u64,
+    /// The place of its interface.
     pub(crate) place: u8,
-    /// The flow, as its first changed packet has it.
     pub(crate) flow: Flow,
-    pub(crate) old: Decision<'a>,
-    pub(crate) new: Decision<'a>,
-    pub(crate) packets: u64,
-    /// The number of the first one.
-    pub(crate) first: u64,
+    pub(crate) pair: Pair<'a>,
+    /// How many packets follow it.
+    pub(crate) follow: u64,
 }
 
-/// The key by which changed packets are gathered.
-#[derive(Clone, Copy, PartialEq, Eq, PartialOrd, Ord)]
-struct Key<'a> {
-    place: u8,
-    /// The flow, whichever way its packets go.
-    flow: Flow,
-    old: Decision<'a>,
-    new: Decision<'a>,
-}
-
-/// A sum over the flows whose packets come to one decision in the old run, and to another one in the new run.
+/// A sum over the packets that come to the same two decisions.
 #[derive(Clone, Copy)]
 pub(crate) struct Sum<'a> {
-    pub(crate) old: Decision<'a>,
-    pub(crate) new: Decision<'a>,
+    pub(crate) pair: Pair<'a>,
     pub(crate) packets: u64,
     pub(crate) flows: u64,
+    /// How many of the packets follow others.
+    pub(crate) follow: u64,
 }
 
+/// A flow on an interface, whichever way its packets go.
+type Key = (u8, Flow);
+
 /// The packets that come to something else by a new ruleset.
+///
+/// A packet that changes follows another one that changed before it: one of its flow, or the one that made the state
+/// which it met in one of the runs. If there is none, it is a cause.
 #[derive(Drop)]
 pub struct Changes<'a> {
     /// Whether another verdict alone is a change.
     verdicts_alone: bool,
+    /// In the order of their numbers.
+    causes: Vec<Cause<'a>>,
+    /// The places of the causes that the next packets of flows follow.
+    flows: BTreeMap<Key, usize>,
+    /// The same for packets of a state, by the number of the packet that made it.
+    makers: BTreeMap<u64, usize>,
     /// In the order of their first packets.
-    pub(crate) list: Vec<Change<'a>>,
-    /// The places in the list.
-    places: BTreeMap<Key<'a>, usize>,
-    /// The flows with changed packets, as the first such packet of each has it, by interface and by the flow for both
-    /// ways.
-    flows: BTreeMap<(u8, Flow), Flow>,
+    sums: Vec<Sum<'a>>,
+    /// The places of the sums.
+    pairs: BTreeMap<Pair<'a>, usize>,
+    /// The flows in each sum, by its place.
+    summed: BTreeSet<(usize, Key)>,
     /// How many packets change.
     pub(crate) changed: u64,
+}
+
+/// What is told of the packets that change, and first of those that are newly let in.
+#[derive(Drop)]
+pub struct Told<'a> {
+    pub(crate) causes: Vec<Cause<'a>>,
+    pub(crate) sums: Vec<Sum<'a>>,
 }
 
 impl<'a> Changes<'a> {
@@ -60,9 +68,12 @@ impl<'a> Changes<'a> {
     pub(crate) fn new(alloc: Global, verdicts_alone: bool) -> Changes<'a> {
         Changes {
             verdicts_alone,
-            list: Vec::new(alloc),
-            places: BTreeMap::new(alloc),
+            causes: Vec::new(alloc),
             flows: BTreeMap::new(alloc),
+            makers: BTreeMap::new(alloc),
+            sums: Vec::new(alloc),
+            pairs: BTreeMap::new(alloc),
+            summed: BTreeSet::new(alloc),
             changed: 0,
         }
     }
@@ -74,16 +85,6 @@ impl<'a> Changes<'a> {
         } else {
             old.differs(new)
         }
-    }
-
-    /// The flow of a changed packet, as the first changed packet of the flow has it.
-    fn first_way(&mut self, place: u8, flow: Flow) -> Result<Flow, AllocError> {
-        let key = (place, flow.either_way());
-        if let Some(first) = self.flows.get(&key) {
-            return Ok(*first);
-        }
-        self.flows.insert(key, flow)?;
-        Ok(flow)
     }
 
     /// Adds a packet, if it changes.
@@ -99,64 +100,158 @@ impl<'a> Changes<'a> {
             return Ok(());
         }
         self.changed = self.changed.saturating_add(1);
-        let flow = Flow::of(view);
-        let key = Key {
-            place: packet.place,
-            flow: flow.either_way(),
+        let pair = Pair {
             old: old.decision(),
             new: new.decision(),
         };
-        if let Some(place) = self.places.get(&key).copied() {
-            if let Some(change) = self.list.get_mut(place) {
-                change.packets = change.packets.saturating_add(1);
+        let flow = Flow::of(view);
+        let key = (packet.place, flow.either_way());
+        let cause = self.cause_of(key, old.maker, new.maker);
+        let sum = self.sum_of(pair)?;
+        let is_new = self.is_new_in(sum, key)?;
+        add_to(&mut self.sums, sum, is_new, cause.is_some());
+        let place = match cause {
+            Some(place) => {
+                follow(&mut self.causes, place);
+                place
             }
-            return Ok(());
-        }
-        self.begin(number, flow, key)
+            None => self.begin(number, packet.place, flow, pair)?,
+        };
+        self.lead(key, place)?;
+        self.note_maker(number, place, old.maker, new.maker)
     }
 
-    /// Adds the first packet of its flow and its decisions.
-    fn begin(&mut self, number: u64, flow: Flow, key: Key<'a>) -> Result<(), AllocError> {
-        let flow = self.first_way(key.place, flow)?;
-        self.places.insert(key, self.list.len())?;
-        self.list.push(Change {
-            place: key.place,
+    /// The place of the cause that a packet follows, if there is one: that of its flow, or that of the packet which made
+    /// the state of the old run, or of the new one.
+    fn cause_of(&self, key: Key, old: Option<u64>, new: Option<u64>) -> Option<usize> {
+        if let Some(place) = self.flows.get(&key) {
+            return Some(*place);
+        }
+        match self.cause_of_state(old) {
+            Some(place) => Some(place),
+            None => self.cause_of_state(new),
+        }
+    }
+
+    /// The place of the cause that packets of the state follow which the packet with a number made.
+    fn cause_of_state(&self, maker: Option<u64>) -> Option<usize> {
+        self.makers.get(&maker?).copied()
+    }
+
+    /// Adds a cause, and answers its place.
+    fn begin(
+        &mut self,
+        number: u64,
+        place: u8,
+        flow: Flow,
+        pair: Pair<'a>,
+    ) -> Result<usize, AllocError> {
+        self.causes.push(Cause {
+            number,
+            place,
             flow,
-            old: key.old,
-            new: key.new,
-            packets: 1,
-            first: number,
+            pair,
+            follow: 0,
         })?;
+        Ok(self.causes.len().saturating_sub(1))
+    }
+
+    /// Has later packets of a flow follow the cause at a place, if they follow none yet.
+    fn lead(&mut self, key: Key, place: usize) -> Result<(), AllocError> {
+        if !self.flows.contains_key(&key) {
+            self.flows.insert(key, place)?;
+        }
         Ok(())
     }
 
-    /// The sums of each pair of decisions, in the order of their first packets.
-    pub(crate) fn sums(&self, alloc: Global) -> Result<Vec<Sum<'a>>, AllocError> {
-        let mut sums: Vec<Sum<'a>> = Vec::new(alloc);
-        let mut places = BTreeMap::new(alloc);
-        for change in self.list.as_slice() {
-            let pair = (change.old, change.new);
-            match places.get(&pair).copied() {
-                Some(place) => add_to(&mut sums, place, change.packets),
-                None => {
-                    places.insert(pair, sums.len())?;
-                    sums.push(Sum {
-                        old: change.old,
-                        new: change.new,
-                        packets: change.packets,
-                        flows: 1,
-                    })?;
-                }
+    /// Has packets of the state follow the cause at a place, if the packet with this number made one in one of the runs.
+    fn note_maker(
+        &mut self,
+        number: u64,
+        place: usize,
+        old: Option<u64>,
+        new: Option<u64>,
+    ) -> Result<(), AllocError> {
+        if old == Some(number) || new == Some(number) {
+            self.makers.insert(number, place)?;
+        }
+        Ok(())
+    }
+
+    /// The place of the sum of a pair of decisions.
+    fn sum_of(&mut self, pair: Pair<'a>) -> Result<usize, AllocError> {
+        if let Some(place) = self.pairs.get(&pair) {
+            return Ok(*place);
+        }
+        let place = self.sums.len();
+        self.pairs.insert(pair, place)?;
+        self.sums.push(Sum {
+            pair,
+            packets: 0,
+            flows: 0,
+            follow: 0,
+        })?;
+        Ok(place)
+    }
+
+    /// Whether no packet of a flow is in the sum at a place yet.
+    fn is_new_in(&mut self, sum: usize, key: Key) -> Result<bool, AllocError> {
+        if self.summed.contains(&(sum, key)) {
+            return Ok(false);
+        }
+        self.summed.insert((sum, key))?;
+        Ok(true)
+    }
+
+    /// Whether no packet changes.
+    pub fn is_empty(&self) -> bool {
+        self.changed == 0
+    }
+
+    /// How many causes there are.
+    pub(crate) fn causes(&self) -> u64 {
+        self.causes.len() as u64
+    }
+
+    /// What is told of them.
+    pub(crate) fn told(&self, alloc: Global) -> Result<Told<'a>, AllocError> {
+        let mut told = Told {
+            causes: Vec::new(alloc),
+            sums: Vec::new(alloc),
+        };
+        self.add_told(&mut told, true)?;
+        self.add_told(&mut told, false)?;
+        Ok(told)
+    }
+
+    /// Adds those causes and sums by which packets are newly let in, or all others.
+    fn add_told(&self, told: &mut Told<'a>, lets_in: bool) -> Result<(), AllocError> {
+        for cause in self.causes.as_slice() {
+            if cause.pair.lets_in() == lets_in {
+                told.causes.push(*cause)?;
             }
         }
-        Ok(sums)
+        for sum in self.sums.as_slice() {
+            if sum.pair.lets_in() == lets_in {
+                told.sums.push(*sum)?;
+            }
+        }
+        Ok(())
     }
 }
 
-/// Adds the packets of a flow to the sum at a place.
-fn add_to(sums: &mut Vec<Sum<'_>>, place: usize, packets: u64) {
+/// One more packet in the sum at a place, maybe of a flow that isn't in it yet, and maybe one that follows another.
+fn add_to(sums: &mut Vec<Sum<'_>>, place: usize, is_new: bool, follows: bool) {
     if let Some(sum) = sums.get_mut(place) {
-        sum.packets = sum.packets.saturating_add(packets);
-        sum.flows = sum.flows.saturating_add(1);
+        sum.packets = sum.packets.saturating_add(1);
+        sum.flows = sum.flows.saturating_add(u64::from(is_new));
+        sum.follow = sum.follow.saturating_add(u64::from(follows));
+    }
+}
+
+/// One more packet follows the cause at a place.
+fn follow(causes: &mut Vec<Cause<'_>>, place: usize) {
+    if let Some(cause) = causes.get_mut(place) {
+        cause.follow = cause.follow.saturating_add(1);
     }
 }

@@ -7,12 +7,16 @@ ghost use Rattle.pfr_merge.specs.MergeReading.{HasPassedOn, NoneRefused};
 use crate::changes::Changes;
 use crate::decision::Meaning;
 use crate::side::Side;
+use crate::unjudged::Unjudged;
+use crate::witness::Witness;
+use pfr_asked::{Told, Untried};
 use pfr_capture::{CaptureError, Record, Source, Tail};
 use pfr_commit::{Gate, Unwatched};
 use pfr_feed::{Sources, give_back, viewed};
 use pfr_headers::View;
 use pfr_listing::{first_line, judged_in};
 use pfr_merge::Merge;
+use pfr_packet::Outcome;
 use pfr_wording::RulesTold;
 use std::alloc::{AllocError, Global};
 
@@ -23,6 +27,10 @@ const BATCH: usize = 256;
 #[derive(Drop)]
 pub struct Compared<'a> {
     pub changes: Changes<'a>,
+    /// The packets that aren't judged, or not as the firewall would judge them.
+    pub(crate) unjudged: Unjudged,
+    /// What differs between the rulesets, and no packet could have asked, or none met.
+    pub(crate) untried: Untried,
     /// How many packets the captures have.
     pub packets: u64,
     /// How the captures end: cut if one of them is.
@@ -60,20 +68,20 @@ struct Both<'a> {
     after: Side,
     told: BothTold<'a>,
     changes: Changes<'a>,
+    witness: Witness,
     /// Room for a line.
     room: Vec<u8>,
 }
 
-/// What a run came to by its line of the packet with this number.
-fn meaning_at<'a>(
+/// What the packet with this number came to by a run's line.
+fn outcome_at(
     alloc: Global,
-    rules: &RulesTold<'a>,
     line: &[u8],
     number: u64,
     room: &mut Vec<u8>,
-) -> Result<Meaning<'a>, Stopped> {
+) -> Result<Outcome, Stopped> {
     match judged_in(alloc, line, room)? {
-        Some(judged) => Ok(Meaning::of(rules, &judged.outcome)),
+        Some(judged) => Ok(judged.outcome),
         None => Err(Stopped::Untold(number)),
     }
 }
@@ -89,6 +97,54 @@ fn next_line<'a>(lines: &mut &'a [u8], number: u64) -> Result<&'a [u8], Stopped>
     }
 }
 
+/// Compares what both runs came to for a packet.
+fn compare_outcomes<'a>(
+    told: BothTold<'a>,
+    changes: &mut Changes<'a>,
+    witness: &mut Witness,
+    number: u64,
+    packet: &Record,
+    view: &View,
+    old: &Outcome,
+    new: &Outcome,
+) -> Result<(), AllocError> {
+    witness.add(packet, view, old, new);
+    let old_meaning = Meaning::of(told.old, old);
+    let new_meaning = Meaning::of(told.new, new);
+    changes.add(number, packet, view, &old_meaning, &new_meaning)
+}
+
+/// Compares what both runs wrote of a packet.
+fn compare_lines<'a>(
+    alloc: Global,
+    told: BothTold<'a>,
+    changes: &mut Changes<'a>,
+    witness: &mut Witness,
+    room: &mut Vec<u8>,
+    number: u64,
+    packet: &Record,
+    view: &View,
+    old_line: &[u8],
+    new_line: &[u8],
+) -> Result<(), Stopped> {
+    let old = outcome_at(alloc, old_line, number, room)?;
+    match outcome_at(alloc, new_line, number, room) {
+        Ok(new) => {
+            let added = compare_outcomes(told, changes, witness, number, packet, view, &old, &new);
+            drop(new);
+            drop(old);
+            match added {
+                Ok(()) => Ok(()),
+                Err(refused) => Err(Stopped::from(refused)),
+            }
+        }
+        Err(stopped) => {
+            drop(old);
+            Err(stopped)
+        }
+    }
+}
+
 /// Compares what both runs wrote of `packets`, which they took last, behind `taken` others.
 fn gather<'a>(
     alloc: Global,
@@ -96,6 +152,7 @@ fn gather<'a>(
     after: &Side,
     told: BothTold<'a>,
     changes: &mut Changes<'a>,
+    witness: &mut Witness,
     room: &mut Vec<u8>,
     taken: u64,
     packets: &[(Record, View)],
@@ -107,9 +164,9 @@ fn gather<'a>(
         number = number.saturating_add(1);
         let old_line = next_line(&mut old_lines, number)?;
         let new_line = next_line(&mut new_lines, number)?;
-        let old_meaning = meaning_at(alloc, told.old, old_line, number, room)?;
-        let new_meaning = meaning_at(alloc, told.new, new_line, number, room)?;
-        changes.add(number, packet, view, &old_meaning, &new_meaning)?;
+        compare_lines(
+            alloc, told, changes, witness, room, number, packet, view, old_line, new_line,
+        )?;
     }
     Ok(())
 }
@@ -138,6 +195,7 @@ impl<'a> Both<'a> {
             &self.after,
             self.told,
             &mut self.changes,
+            &mut self.witness,
             &mut self.room,
             taken,
             packets,
@@ -224,20 +282,67 @@ fn take_all<R: Source, G: Gate>(
 }
 
 /// What was found, if all packets were taken.
-fn concluded<'a>(both: Both<'a>, end: Result<Tail, Stopped>) -> Result<Compared<'a>, Stopped> {
+fn concluded<'a>(
+    alloc: Global,
+    both: Both<'a>,
+    end: Result<Tail, Stopped>,
+) -> Result<Compared<'a>, Stopped> {
+    let Both {
+        before,
+        after,
+        told,
+        changes,
+        witness,
+        ..
+    } = both;
     match end {
-        Ok(tail) => Ok(Compared {
-            packets: both.before.committed(),
-            changes: both.changes,
-            tail,
-        }),
+        Ok(tail) => {
+            let packets = before.committed();
+            let untried = untried_of(alloc, &before, &after, told, &witness);
+            drop(before);
+            drop(after);
+            let unjudged = witness.unjudged;
+            drop(witness);
+            match untried {
+                Ok(untried) => Ok(Compared {
+                    changes,
+                    unjudged,
+                    untried,
+                    packets,
+                    tail,
+                }),
+                Err(refused) => {
+                    drop(changes);
+                    Err(Stopped::from(refused))
+                }
+            }
+        }
         Err(stopped) => Err(stopped),
     }
 }
 
+/// What differs between the rulesets of two runs, and no packet could have asked, or none met.
+fn untried_of<'a>(
+    alloc: Global,
+    before: &Side,
+    after: &Side,
+    told: BothTold<'a>,
+    witness: &Witness,
+) -> Result<Untried, AllocError> {
+    let old = Told {
+        rules: before.book.job().rules(),
+        told: told.old,
+    };
+    let new = Told {
+        rules: after.book.job().rules(),
+        told: told.new,
+    };
+    Untried::of(alloc, old, new, &witness.old, &witness.new)
+}
+
 /// Has two runs that have taken no packet take the packets of captures, and gathers the packets for which they write
-/// something else. With `verdicts_alone` it gathers only those with another verdict. A gate is told what the packets
-/// come to in the new run.
+/// something else. With `verdicts_alone` it gathers only those with another verdict. If the captures show the wire,
+/// packets that go out are shown behind their translation. A gate is told what the packets come to in the new run.
 pub fn compare<'a, R: Source, G: Gate>(
     alloc: Global,
     sources: &mut Sources<R>,
@@ -245,22 +350,38 @@ pub fn compare<'a, R: Source, G: Gate>(
     new: Side,
     told: BothTold<'a>,
     verdicts_alone: bool,
+    shows_wire: bool,
     gate: &G,
 ) -> Result<Compared<'a>, Stopped>
     requires captures { length sources.old ≤ 8 }
     requires old { old.book.count ≡ 0 }
     requires new { new.book.count ≡ 0 }
 {
-    let mut both = Both {
-        before: old,
-        after: new,
-        told,
-        changes: Changes::new(alloc, verdicts_alone),
-        room: Vec::new(alloc),
-    };
-    let end = match sources.open(alloc) {
-        Ok(merge) => take_all(alloc, merge, sources, &mut both, gate),
-        Err(refusal) => Err(Stopped::Reading(refusal.0, refusal.1, 0)),
-    };
-    concluded(both, end)
+    match Witness::of(
+        alloc,
+        old.book.job().rules(),
+        new.book.job().rules(),
+        shows_wire,
+    ) {
+        Ok(witness) => {
+            let mut both = Both {
+                before: old,
+                after: new,
+                told,
+                changes: Changes::new(alloc, verdicts_alone),
+                witness,
+                room: Vec::new(alloc),
+            };
+            let end = match sources.open(alloc) {
+                Ok(merge) => take_all(alloc, merge, sources, &mut both, gate),
+                Err(refusal) => Err(Stopped::Reading(refusal.0, refusal.1, 0)),
+            };
+            concluded(alloc, both, end)
+        }
+        Err(refused) => {
+            drop(old);
+            drop(new);
+            Err(Stopped::from(refused))
+        }
+    }
 }

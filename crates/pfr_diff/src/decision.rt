@@ -1,21 +1,34 @@
 //! What a ruleset comes to for a packet, as it is told.
 use pfr_listing::{reason_word, verdict_word};
 use pfr_net::RuleNumber;
-use pfr_packet::{Outcome, Reason};
-use pfr_texts::append_number;
+use pfr_packet::{Outcome, Reason, Verdict};
 use pfr_wording::{RuleTold, RulesTold};
-use std::alloc::AllocError;
 
 /// What is told of a packet's outcome.
 #[derive(Clone, Copy, PartialEq, Eq, PartialOrd, Ord)]
 pub(crate) struct Decision<'a> {
-    verdict: &'static [u8],
+    pub(crate) verdict: &'static [u8],
     /// The reason, if it isn't a rule or a state.
-    reason: Option<&'static [u8]>,
+    pub(crate) reason: Option<&'static [u8]>,
     /// The line of the filter rule.
-    rule: Option<usize>,
+    pub(crate) rule: Option<usize>,
     /// The kind of the translation rule, and its line.
-    translation: Option<(&'a [u8], usize)>,
+    pub(crate) translation: Option<(&'a [u8], usize)>,
+}
+
+/// What a packet comes to in the old run and in the new one.
+#[derive(Clone, Copy, PartialEq, Eq, PartialOrd, Ord)]
+pub(crate) struct Pair<'a> {
+    pub(crate) old: Decision<'a>,
+    pub(crate) new: Decision<'a>,
+}
+
+impl Pair<'_> {
+    /// Whether packets are newly let in.
+    pub(crate) fn lets_in(&self) -> bool {
+        let pass = verdict_word(Verdict::Pass);
+        self.old.verdict != pass && self.new.verdict == pass
+    }
 }
 
 /// The rule with a number.
@@ -32,20 +45,10 @@ fn told_reason(reason: Reason) -> Option<&'static [u8]> {
     }
 }
 
-/// The first of a rule's words.
-fn first_word(words: &[u8]) -> &[u8] {
-    for (place, byte) in words.iter().enumerate() {
-        if *byte == b' ' {
-            return &words[..place];
-        }
-    }
-    words
-}
-
-/// The words of a rule, if there is one.
+/// The words of a rule without its label, if there is one.
 fn words_of<'a>(rule: Option<RuleTold<'a>>) -> Option<&'a [u8]> {
     match rule {
-        Some(rule) => Some(rule.words),
+        Some(rule) => Some(rule.unlabelled),
         None => None,
     }
 }
@@ -57,6 +60,8 @@ pub(crate) struct Meaning<'a> {
     reason: Option<&'static [u8]>,
     rule: Option<RuleTold<'a>>,
     translation: Option<RuleTold<'a>>,
+    /// The number of the packet that made the state which it met, or its own if it made one.
+    pub(crate) maker: Option<u64>,
 }
 
 impl<'a> Meaning<'a> {
@@ -66,6 +71,10 @@ impl<'a> Meaning<'a> {
             reason: told_reason(outcome.reason),
             rule: rule_at(rules.filter.as_slice(), outcome.rule),
             translation: rule_at(rules.translations.as_slice(), outcome.translation),
+            maker: match outcome.state {
+                Some(state) => Some(state.0),
+                None => None,
+            },
         }
     }
 
@@ -92,35 +101,9 @@ impl<'a> Meaning<'a> {
                 None => None,
             },
             translation: match self.translation {
-                Some(rule) => Some((first_word(rule.words), rule.line)),
+                Some(rule) => Some((rule.kind(), rule.line)),
                 None => None,
             },
         }
-    }
-}
-
-/// Appends ` L` and a line.
-fn append_line(text: &mut Vec<u8>, line: usize) -> Result<(), AllocError> {
-    text.extend_from_slice(b" L")?;
-    append_number(text, line as u64)
-}
-
-impl Decision<'_> {
-    /// Appends `VERDICT[ REASON][ LLINE][ KIND LLINE]`.
-    pub(crate) fn append(&self, text: &mut Vec<u8>) -> Result<(), AllocError> {
-        text.extend_from_slice(self.verdict)?;
-        if let Some(reason) = self.reason {
-            text.extend_from_slice(b" ")?;
-            text.extend_from_slice(reason)?;
-        }
-        if let Some(line) = self.rule {
-            append_line(text, line)?;
-        }
-        if let Some((kind, line)) = self.translation {
-            text.extend_from_slice(b" ")?;
-            text.extend_from_slice(kind)?;
-            append_line(text, line)?;
-        }
-        Ok(())
     }
 }

@@ -21,6 +21,8 @@ pub const TROUBLE: u8 = 2;
 pub const DEVICE: u8 = 3;
 /// Memory was refused.
 pub const NO_MEMORY: u8 = 4;
+/// Two rulesets come to something else for no packet, but not all packets were judged.
+pub const UNJUDGED: u8 = 5;
 
 /// Why the program did not do what was asked.
 #[derive(Clone, Copy)]

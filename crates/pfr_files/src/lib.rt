@@ -23,8 +23,8 @@ pub use captures::{CaptureSource, names_of, sources};
 pub use connection::{Connection, accepted, connected};
 pub use destination::Destination;
 pub use failure::{
-    CHANGED, CUT, Counted, DEVICE, DONE, Failure, NO_MEMORY, Place, REFUSED, TROUBLE, report,
-    text_refused,
+    CHANGED, CUT, Counted, DEVICE, DONE, Failure, NO_MEMORY, Place, REFUSED, TROUBLE, UNJUDGED,
+    report, text_refused,
 };
 pub use files::{created, opened, text_of};
 pub use head::Head;

@@ -1,7 +1,7 @@
 -- The lines of counters that a run writes.
 use Rattle.std.specs.Prelude.{ℕ, List, codes}
 use Rattle.pfr_commit.specs.Endings.{rule_line}
-use Rattle.pfr_listing.specs.declared.counted.Counted.{Counted}
+use Rattle.pfr_wording.specs.declared.counts.Counted.{Counted}
 use Rattle.pfr_listing.specs.declared.counted.RuleKind.{RuleKind}
 use Rattle.pfr_listing.specs.declared.counted.RuleKind.TheVariants.{Filter, Translation}
 

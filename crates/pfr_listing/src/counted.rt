@@ -4,23 +4,13 @@ ghost use Rattle.pfr_listing.specs.Counters as spec;
 
 use crate::words::{counts_in, totals_in};
 use pfr_digits::Tail;
+use pfr_wording::Counted;
 
 /// The rules that a line of counters may be about.
 #[derive(Clone, Copy, Debug, PartialEq, Eq)]
 pub enum RuleKind {
     Filter,
     Translation,
-}
-
-/// What the counters say of a rule.
-#[derive(Clone, Copy, Debug, PartialEq, Eq)]
-pub struct Counted {
-    /// For how many packets it was visited.
-    pub evaluations: u64,
-    /// How many packets count for it.
-    pub packets: u64,
-    /// How many bytes these have.
-    pub bytes: u64,
 }
 
 /// The word with which lines of rules begin.

@@ -1,14 +1,8 @@
 //! The counters of a run.
-use crate::counted::{Counted, RuleKind, counted_in, is_total};
+use crate::counted::{RuleKind, counted_in, is_total};
 use crate::listing::{Refused, first_line};
+use pfr_wording::{Counted, RuleCounts};
 use std::alloc::{AllocError, Global};
-
-/// What a run counted of each rule, by its number.
-#[derive(Drop)]
-pub struct RuleCounts {
-    pub filter: Vec<Counted>,
-    pub translations: Vec<Counted>,
-}
 
 /// The lines of a text that are left, and the number of the next one.
 #[derive(Drop)]

@@ -1,4 +1,5 @@
 //! The flows of packets.
+use crate::json::{put_count, put_option};
 use crate::pfctl::protocol_name;
 use pfr_headers::{Packet, Transport, View};
 use pfr_net::{Ipv4Address, Port, Protocol};
@@ -59,6 +60,19 @@ fn append_end(text: &mut Vec<u8>, end: End) -> Result<(), AllocError> {
     }
 }
 
+/// Appends `lead` and an end as an object. Its port is null if it can't be seen.
+fn put_end(text: &mut Vec<u8>, lead: &[u8], end: End) -> Result<(), AllocError> {
+    text.extend_from_slice(lead)?;
+    text.extend_from_slice(b"{\"address\":\"")?;
+    append_address(text, end.address)?;
+    let port = match end.port {
+        Some(port) => Some(u64::from(port.0)),
+        None => None,
+    };
+    put_option(text, b"\",\"port\":", port)?;
+    text.extend_from_slice(b"}")
+}
+
 /// Appends a protocol by its name, or by its number.
 fn append_protocol(text: &mut Vec<u8>, protocol: Protocol) -> Result<(), AllocError> {
     match protocol_name(protocol) {
@@ -98,6 +112,21 @@ impl Flow {
                 append_end(text, source)?;
                 text.extend_from_slice(b" > ")?;
                 append_end(text, destination)
+            }
+        }
+    }
+
+    /// Appends the names of JSON for its protocol and its ends, without a comma before them. All are null if it isn't
+    /// between two ends.
+    pub fn put_json(self, text: &mut Vec<u8>) -> Result<(), AllocError> {
+        match self {
+            Flow::Between(protocol, source, destination) => {
+                put_count(text, b"\"protocol\":", u64::from(protocol.0))?;
+                put_end(text, b",\"source\":", source)?;
+                put_end(text, b",\"destination\":", destination)
+            }
+            Flow::NotIp | Flow::Short => {
+                text.extend_from_slice(b"\"protocol\":null,\"source\":null,\"destination\":null")
             }
         }
     }

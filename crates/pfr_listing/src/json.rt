@@ -62,11 +62,22 @@ pub fn put_string(text: &mut Vec<u8>, bytes: &[u8]) -> Result<(), AllocError>
 }
 
 /// Appends `lead` and a number.
-fn put_count(text: &mut Vec<u8>, lead: &[u8], number: u64) -> Result<(), AllocError>
+pub fn put_count(text: &mut Vec<u8>, lead: &[u8], number: u64) -> Result<(), AllocError>
     ensures { OnOk result (text.new.items ≡ text.old.items ++ (lead.now ++ decimal number)) }
 {
     text.extend_from_slice(lead)?;
     append_number(text, number)
+}
+
+/// Appends `lead` and a number, or null.
+pub fn put_option(text: &mut Vec<u8>, lead: &[u8], number: Option<u64>) -> Result<(), AllocError>
+    ensures { OnOk result (text.new.items ≡ text.old.items ++ (lead.now ++ spec.number_or_null number)) }
+{
+    text.extend_from_slice(lead)?;
+    match number {
+        Some(number) => append_number(text, number),
+        None => text.extend_from_slice(b"null"),
+    }
 }
 
 /// Appends `lead` and a shift, or null.

@@ -19,10 +19,10 @@ mod listing;
 mod pfctl;
 mod words;
 
-pub use counted::{Counted, RuleKind, counted_in};
-pub use counters::{RuleCounts, counters_in};
+pub use counted::{RuleKind, counted_in};
+pub use counters::counters_in;
 pub use flow::{End, Flow};
-pub use json::{put_json, put_string};
+pub use json::{put_count, put_json, put_option, put_string};
 pub use judged::{Judged, judged_in};
 pub use line::{Bound, Listed, is_line};
 pub use listing::{Refused, first_line, listed};

@@ -2,7 +2,7 @@
 ghost use Rattle.std.specs.Prelude.{◌≡◌};
 ghost use Rattle.pfr_packet.specs.Verdicts.{reason_text, verdict_text};
 
-use crate::counted::{Counted, Totals};
+use crate::counted::Totals;
 use pfr_net::{
     Binding, Direction, Endpoint, InterfacePlace, Port, Protocol, RuleNumber, Timeout, notation,
 };
@@ -11,6 +11,7 @@ use pfr_track::{
     Clock, DatagramPeer, Deadline, Key, Peers, Sequence, State, StateNumber, StateRules, TcpPeer,
     TcpPeerState, Traffic,
 };
+use pfr_wording::Counted;
 use std::alloc::Global;
 use std::str;
 use std::str::FromStr;

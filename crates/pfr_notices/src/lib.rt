@@ -5,8 +5,9 @@
 //! run depends on them. [`Two`] hands each packet on to two gates.
 //!
 //! - A [`Watch`] counts what may mean that the run doesn't fit its captures: packets that go one way alone, that belong
-//!   to connections begun before the capture, or that are skipped, and states that a limit refused. It also finds the
-//!   interfaces that rules name and no capture is of. At the end of a run it warns of these.
+//!   to connections begun before the capture, that are skipped, cut or parts of others, or that are shown behind their
+//!   translation, and states that a limit refused. It also finds the interfaces that rules name and no capture is of. At
+//!   the end of a run it warns of these.
 //! - A [`Meter`] says now and then how many packets were taken, how many a second, which part of the captures was read,
 //!   and how many states were made.
 //!
@@ -17,6 +18,7 @@
 #![tactic(auto)]
 
 mod counts;
+mod cut;
 mod meter;
 mod midway;
 mod named;
@@ -27,11 +29,13 @@ mod two;
 mod warning;
 mod watch;
 
+pub use cut::is_cut;
 pub use meter::{Meter, Shown};
 pub use midway::is_midway;
 pub use named::named_interfaces;
 pub use reading::{Reading, per_second, share_of};
 pub use skipped::{SkippedAs, skipped_as};
+pub use tally::{Hearer, Wanted};
 pub use two::Two;
 pub use warning::{Skipped, Warning, warn};
 pub use watch::Watch;

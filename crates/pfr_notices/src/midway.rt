@@ -33,6 +33,17 @@ fn is_later(transport: &Transport) -> bool
     }
 }
 
+/// Whether a packet requests a TCP connection: a segment with SYN and without ACK.
+pub(crate) fn requests(view: &View) -> bool {
+    match view {
+        View::Ipv4(packet) => match &packet.transport {
+            Transport::Tcp(header) => header.flags.are(SYN, SYN | ACK),
+            _ => false,
+        },
+        View::Skip | View::Short => false,
+    }
+}
+
 /// Whether a packet that met no state is blocked by a rule or makes a state.
 fn is_for_states(outcome: &Outcome) -> bool
     ensures { result ≡ spec.is_for_states outcome.now }

@@ -41,14 +41,22 @@ pub enum Warning<'a> {
     NoneGoesOut(IfName),
     /// No packet of this interface comes in.
     NoneComesIn(IfName),
-    /// No rule names this interface of the run.
+    /// Rules name interfaces, and none names this one of the run.
     NoRule(IfName),
+    /// What goes out of this interface is shown behind its translation, and the run isn't told so.
+    Translated(IfName),
     /// Rules name this interface, and the run doesn't have it.
     NoCapture(IfName),
-    /// This many packets are of TCP connections that began before them, and met no state.
-    Midway(u64),
     /// Of this many packets these are skipped.
     Skipped { packets: u64, skipped: Skipped },
+    /// This many packets are too short, since not all of them was captured.
+    Cut(u64),
+    /// This many are parts of packets.
+    Parts(u64),
+    /// This many packets are of TCP connections that began before them, and met no state.
+    Midway(u64),
+    /// The same, and no TCP connection begins.
+    NoneBegins(u64),
     /// This many states were refused by a limit.
     Refused(u64),
     /// Why the system didn't give a file, or a connection to a peer.
@@ -79,14 +87,25 @@ impl fmt::Display for Warning<'_> {
             Warning::NoneGoesOut(name) => write!(f, "{}: no packet goes out", Printed(*name)),
             Warning::NoneComesIn(name) => write!(f, "{}: no packet comes in", Printed(*name)),
             Warning::NoRule(name) => write!(f, "no rule names {}", Printed(*name)),
+            Warning::Translated(name) => write!(
+                f,
+                "{}: what goes out is shown behind its translation, without --tap wire",
+                Printed(*name)
+            ),
             Warning::NoCapture(name) => {
                 write!(f, "no capture is of {}, which rules name", Printed(*name))
             }
-            Warning::Midway(count) => write!(f, "packets midway in a TCP connection: {count}"),
             Warning::Skipped { packets, skipped } => {
                 let count = skipped.count();
                 write!(f, "packets skipped: {count} of {packets}: {skipped}")
             }
+            Warning::Cut(count) => write!(f, "packets cut by the snapshot length: {count}"),
+            Warning::Parts(count) => write!(f, "parts of packets: {count}"),
+            Warning::Midway(count) => write!(f, "packets midway in a TCP connection: {count}"),
+            Warning::NoneBegins(count) => write!(
+                f,
+                "packets midway in a TCP connection: {count}, and no connection begins"
+            ),
             Warning::Refused(count) => write!(f, "states refused by a limit: {count}"),
             Warning::NotOpened(name, reason) => write!(f, "{name}: {reason}"),
         }

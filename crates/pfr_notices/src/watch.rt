@@ -1,5 +1,6 @@
 //! Who watches a run, and warns of what it has seen.
-use crate::tally::Tally;
+use crate::tally::{Hearer, Tally, Wanted};
+use crate::warning::{Warning, warn};
 use pfr_capture::Record;
 use pfr_commit::Gate;
 use pfr_headers::View;
@@ -12,6 +13,21 @@ use std::io::Write;
 #[derive(Drop)]
 pub struct Watch {
     tally: Option<Tally>,
+    wanted: Wanted,
+    /// Whether the run is told that its captures show the wire.
+    shows_wire: bool,
+}
+
+/// Writes warnings, each in a line.
+#[derive(Drop)]
+struct Lines<'a, E> {
+    err: &'a mut E,
+}
+
+impl<E: Write> Hearer for Lines<'_, E> {
+    fn hear(&mut self, warning: &Warning<'_>) {
+        warn(warning, self.err);
+    }
 }
 
 impl Gate for Watch {
@@ -23,19 +39,34 @@ impl Gate for Watch {
 }
 
 impl Watch {
-    /// Watches a run through a ruleset, or nothing, if no warnings are wanted.
-    pub fn new(alloc: Global, rules: &Ruleset, warns: bool) -> Result<Watch, AllocError> {
-        if !warns {
-            return Ok(Watch { tally: None });
+    /// Watches a run through a ruleset, unless no warning is wanted. It may be that the run is told that its captures show
+    /// the wire.
+    pub fn new(
+        alloc: Global,
+        rules: &Ruleset,
+        wanted: Wanted,
+        shows_wire: bool,
+    ) -> Result<Watch, AllocError> {
+        let tally = match wanted {
+            Wanted::Nothing => None,
+            Wanted::Beside | Wanted::Everything => Some(Tally::new(alloc, rules)?),
+        };
+        Ok(Watch {
+            tally,
+            wanted,
+            shows_wire,
+        })
+    }
+
+    /// Tells what there is to warn of behind the last of `packets` packets.
+    pub fn tell<H: Hearer>(&self, packets: u64, hearer: &mut H) {
+        if let Some(tally) = &self.tally {
+            tally.tell(packets, self.wanted, self.shows_wire, hearer);
         }
-        let tally = Some(Tally::new(alloc, rules)?);
-        Ok(Watch { tally })
     }
 
     /// Writes what there is to warn of behind the last of `packets` packets, a line for each thing.
     pub fn warn<E: Write>(&self, packets: u64, err: &mut E) {
-        if let Some(tally) = &self.tally {
-            tally.warn(packets, err);
-        }
+        self.tell(packets, &mut Lines { err });
     }
 }

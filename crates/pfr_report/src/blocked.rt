@@ -10,11 +10,10 @@ const TOLD: usize = 20;
 
 /// Why the first packet of a flow was blocked.
 #[derive(Clone, Copy)]
-pub(crate) enum Why {
-    /// By a filter rule on this line.
-    Line(usize),
-    /// By no rule, for this reason.
-    Reason(Reason),
+pub(crate) struct Why {
+    /// The line of the filter rule, if one is named.
+    pub(crate) line: Option<usize>,
+    pub(crate) reason: Reason,
 }
 
 /// Packets of a flow that are blocked.

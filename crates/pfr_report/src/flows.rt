@@ -1,5 +1,5 @@
 //! The part of a page about flows that are blocked.
-use crate::blocked::{Blocked, BlockedFlows, Told, Why};
+use crate::blocked::{BlockedFlows, Told, Why};
 use crate::page::Page;
 use crate::printing::Captured;
 use crate::tables::{
@@ -10,24 +10,23 @@ use pfr_listing::{Flow, reason_word};
 use std::alloc::{AllocError, Global};
 
 /// The columns of the table.
-const COLUMNS: [Column; 6] = [
+const COLUMNS: [Column; 7] = [
     (b"Packets", true),
     (b"Bytes", true),
     (b"Flow", false),
     (b"Interface", false),
-    (b"Rule", false),
+    (b"Rule", true),
+    (b"Reason", false),
     (b"First", true),
 ];
 
-/// Appends the cell that says why packets were blocked.
-fn append_blocked_by(page: &mut Page, blocked: &Blocked) -> Result<(), AllocError> {
-    match blocked.why {
-        Why::Line(line) => {
-            append_counted(page, b"<td>", line as u64)?;
-            page.markup(b"</td>")
-        }
-        Why::Reason(reason) => append_word_cell(page, reason_word(reason)),
+/// Appends the cells that say why packets were blocked.
+fn append_why(page: &mut Page, why: Why) -> Result<(), AllocError> {
+    match why.line {
+        Some(line) => append_number_cell(page, line as u64)?,
+        None => append_word_cell(page, b"")?,
     }
+    append_word_cell(page, reason_word(why.reason))
 }
 
 /// Appends the cell of a flow.
@@ -57,7 +56,7 @@ fn append_flow(
     append_count_cells(page, told.blocked.count)?;
     append_flow_cell(alloc, page, flow)?;
     append_text_cell(page, name_at(captures, place).as_bytes())?;
-    append_blocked_by(page, &told.blocked)?;
+    append_why(page, told.blocked.why)?;
     append_number_cell(page, told.blocked.first)?;
     page.markup(b"</tr>\n")
 }

@@ -3,6 +3,8 @@ ghost use Rattle.std.specs.Prelude.{◌≡◌};
 ghost use Rattle.pfr_report.specs.Lines as spec;
 
 use crate::count::{Count, NONE};
+use pfr_asked::{NotAsked, Why};
+use pfr_packet::Verdict;
 use pfr_shadows::Shadow;
 use pfr_wording::{RuleTold, RulesTold};
 use std::alloc::{AllocError, Global};
@@ -18,6 +20,14 @@ pub(crate) struct Line {
     shadowed: u64,
     /// The line of the rule by which the first of them is.
     by: usize,
+    /// How many of them no packet could have asked.
+    unasked: u64,
+    /// Why none could have asked the first of these.
+    why: Option<Why>,
+    /// The verdict of its filter rules, if they have one.
+    verdict: Option<Verdict>,
+    /// Whether they have several.
+    is_mixed: bool,
     pub(crate) count: Count,
 }
 
@@ -27,8 +37,25 @@ const EMPTY: Line = Line {
     rules: 0,
     shadowed: 0,
     by: 0,
+    unasked: 0,
+    why: None,
+    verdict: None,
+    is_mixed: false,
     count: NONE,
 };
+
+/// The verdict of a rule with these words, if it is a filter rule.
+fn verdict_of(words: &[u8]) -> Option<Verdict> {
+    if words.starts_with(b"pass") {
+        Some(Verdict::Pass)
+    } else if words.starts_with(b"block return") {
+        Some(Verdict::Return)
+    } else if words.starts_with(b"block") {
+        Some(Verdict::Block)
+    } else {
+        None
+    }
+}
 
 impl Line {
     /// Whether nothing counts for its rules, and something might.
@@ -45,9 +72,41 @@ impl Line {
         }
     }
 
+    /// Why no packet could have asked its first rule, if none could have asked any of them.
+    pub(crate) fn not_asked(&self) -> Option<Why> {
+        if self.rules > 0 && self.unasked == self.rules {
+            self.why
+        } else {
+            None
+        }
+    }
+
+    /// The verdict of its filter rules, if all have the same.
+    pub(crate) fn verdict(&self) -> Option<Verdict> {
+        if self.is_mixed { None } else { self.verdict }
+    }
+
+    /// Notes the verdict of a rule on the line.
+    fn add_verdict(&mut self, verdict: Option<Verdict>) {
+        match (self.verdict, verdict) {
+            (Some(one), Some(other)) if one != other => self.is_mixed = true,
+            (None, Some(_)) => self.verdict = verdict,
+            _ => {}
+        }
+    }
+
+    /// Says of a rule on the line why no packet could have asked it.
+    fn leave_out(&mut self, why: Why) {
+        if self.unasked == 0 {
+            self.why = Some(why);
+        }
+        self.unasked = self.unasked.saturating_add(1);
+    }
+
     /// Puts a rule on the line.
     fn put(&mut self, rule: &RuleTold<'_>) {
         self.has_rule = true;
+        self.add_verdict(verdict_of(rule.words));
         if !rule.words.starts_with(b"no ") {
             self.rules = self.rules.saturating_add(1);
         }
@@ -125,6 +184,15 @@ impl Lines {
                 if let Some(line) = self.0.get_mut(number) {
                     line.shadow(by);
                 }
+            }
+        }
+    }
+
+    /// Says of rules that no packet could have asked them.
+    pub(crate) fn leave_out(&mut self, rules: &[NotAsked]) {
+        for (number, why) in rules {
+            if let Some(line) = self.0.get_mut(*number) {
+                line.leave_out(*why);
             }
         }
     }

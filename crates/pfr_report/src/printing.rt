@@ -7,8 +7,8 @@ use crate::rules::{lines_of, print_rules, print_unused};
 use crate::style::STYLE;
 use crate::summary::append_summary;
 use crate::tables::{
-    Column, append_count_cells, append_number_cell, append_share_cell, append_word_cell,
-    begin_section, begin_table, end_section, end_table,
+    Column, append_count_cells, append_none, append_number_cell, append_share_cell,
+    append_word_cell, begin_section, begin_table, end_section, end_table,
 };
 use crate::tally::Counted;
 use pfr_capture::Sink;
@@ -27,6 +27,8 @@ pub struct Subject<'a> {
     pub text: &'a [u8],
     /// The captures, by the places of their interfaces.
     pub captures: &'a [Captured<'a>],
+    /// What there is to warn of.
+    pub warnings: &'a [String],
 }
 
 /// The columns of the table of states.
@@ -49,6 +51,23 @@ fn append_head(page: &mut Page, name: &str) -> Result<(), AllocError> {
     page.markup(b"</style>\n</head>\n<body>\n<h1>pfreplay report: ")?;
     page.text(name.as_bytes())?;
     page.markup(b"</h1>\n")
+}
+
+/// Appends the part of the page with what there is to warn of.
+fn append_warnings(page: &mut Page, warnings: &[String]) -> Result<(), AllocError> {
+    begin_section(page, b"warnings", b"What may not fit")?;
+    if warnings.is_empty() {
+        append_none(page)?;
+        return end_section(page);
+    }
+    page.markup(b"<ul>\n")?;
+    for warning in warnings {
+        page.markup(b"<li>")?;
+        page.text(warning.as_bytes())?;
+        page.markup(b"</li>\n")?;
+    }
+    page.markup(b"</ul>\n")?;
+    end_section(page)
 }
 
 /// Appends the part of the page with states by their ages.
@@ -80,6 +99,7 @@ pub fn print<K: Sink>(
     let words = lines_of(alloc, subject.text)?;
     let mut page = Page::new(alloc);
     append_head(&mut page, subject.name)?;
+    append_warnings(&mut page, subject.warnings)?;
     append_summary(&mut page, &mut calendar, subject, counted, walked)?;
     append_times(&mut page, &mut calendar, &counted.spans)?;
     print_rules(
@@ -89,7 +109,7 @@ pub fn print<K: Sink>(
         walked.packets,
         sink,
     )?;
-    print_unused(&mut page, words.as_slice(), &counted.lines, sink)?;
+    print_unused(alloc, &mut page, words.as_slice(), &counted.lines, sink)?;
     append_blocked(alloc, &mut page, subject.captures, &counted.blocked)?;
     if let Some(ages) = ages {
         append_states(&mut page, ages)?;

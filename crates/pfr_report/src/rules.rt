@@ -6,6 +6,7 @@ use crate::tables::{
     begin_section, begin_table, end_section, end_table,
 };
 use pfr_capture::Sink;
+use pfr_listing::verdict_word;
 use pfr_show::Stopped;
 use std::alloc::{AllocError, Global};
 
@@ -26,12 +27,17 @@ const OF_UNUSED: [Column; 4] = [
     (b"Text", false),
 ];
 
-/// Begins the row of a line, with the class for what counts for it.
+/// Begins the row of a line. Its class is the verdict of its rules, if packets count for it.
 fn begin_line(page: &mut Page, line: Line) -> Result<(), AllocError> {
     if !line.has_rule {
         page.markup(b"<tr>")
     } else if line.count.packets > 0 {
-        page.markup(b"<tr class=\"used\">")
+        page.markup(b"<tr class=\"")?;
+        page.markup(match line.verdict() {
+            Some(verdict) => verdict_word(verdict),
+            None => b"used",
+        })?;
+        page.markup(b"\">")
     } else {
         page.markup(b"<tr class=\"unused\">")
     }
@@ -102,10 +108,17 @@ pub(crate) fn print_rules<K: Sink>(
 }
 
 /// Appends why nothing counts for a line, if that is known.
-fn append_why(page: &mut Page, line: Line) -> Result<(), AllocError> {
-    match line.shadowed_by() {
-        Some(by) => {
-            append_counted(page, b"<td>shadowed by ", by as u64)?;
+fn append_why(page: &mut Page, room: &mut Vec<u8>, line: Line) -> Result<(), AllocError> {
+    if let Some(by) = line.shadowed_by() {
+        append_counted(page, b"<td>shadowed by ", by as u64)?;
+        return page.markup(b"</td>");
+    }
+    match line.not_asked() {
+        Some(why) => {
+            room.clear();
+            why.append(room)?;
+            page.markup(b"<td>not asked: ")?;
+            page.text(room.as_slice())?;
             page.markup(b"</td>")
         }
         None => page.markup(b"<td></td>"),
@@ -115,6 +128,7 @@ fn append_why(page: &mut Page, line: Line) -> Result<(), AllocError> {
 /// Appends the row of a line for which nothing counts.
 fn append_unused(
     page: &mut Page,
+    room: &mut Vec<u8>,
     number: usize,
     line: Line,
     words: &[u8],
@@ -122,7 +136,7 @@ fn append_unused(
     page.markup(b"<tr>")?;
     append_number_cell(page, number as u64)?;
     append_number_cell(page, line.rules)?;
-    append_why(page, line)?;
+    append_why(page, room, line)?;
     append_code_cell(page, words)?;
     page.markup(b"</tr>\n")
 }
@@ -139,17 +153,19 @@ fn has_unused(lines: &Lines) -> bool {
 
 /// Prints the rows of the lines for which nothing counts.
 fn print_unused_rows<K: Sink>(
+    alloc: Global,
     page: &mut Page,
     words: &[&[u8]],
     lines: &Lines,
     sink: &mut K,
 ) -> Result<(), Stopped> {
+    let mut room = Vec::new(alloc);
     begin_table(page, b"unused-lines", &OF_UNUSED)?;
     for number in 0..lines.len() {
         let line = lines.at(number);
         if line.is_unused() {
             let words = words.get(number.saturating_sub(1)).copied().unwrap_or(&[]);
-            append_unused(page, number, line, words)?;
+            append_unused(page, &mut room, number, line, words)?;
             page.print_piece(sink)?;
         }
     }
@@ -158,6 +174,7 @@ fn print_unused_rows<K: Sink>(
 
 /// Prints the part of the page with the lines for which nothing counts.
 pub(crate) fn print_unused<K: Sink>(
+    alloc: Global,
     page: &mut Page,
     words: &[&[u8]],
     lines: &Lines,
@@ -165,7 +182,7 @@ pub(crate) fn print_unused<K: Sink>(
 ) -> Result<(), Stopped> {
     begin_section(page, b"unused", b"Lines that did nothing")?;
     if has_unused(lines) {
-        print_unused_rows(page, words, lines, sink)?;
+        print_unused_rows(alloc, page, words, lines, sink)?;
     } else {
         append_none(page)?;
     }

@@ -14,8 +14,8 @@ th { font-weight: 600; }
 td.number, th.number { text-align: right; font-variant-numeric: tabular-nums; white-space: nowrap; }
 td.share { min-width: 6rem; background: linear-gradient(#bee3f8, #bee3f8) 0 0 / var(--share, 0) 100% no-repeat; }
 code { font: 0.85rem/1.4 ui-monospace, monospace; white-space: pre-wrap; overflow-wrap: anywhere; tab-size: 8; }
-tr.used td { background-color: #f0fff4; }
-tr.unused td { background-color: #fff5f5; color: #742a2a; }
+tr.pass td { background-color: #f0fff4; } tr.block td { background-color: #fff5f5; }
+tr.return td { background-color: #fffaf0; } tr.unused td { color: #718096; }
 .wide { overflow-x: auto; }
 svg { display: block; width: 100%; height: 14rem; background: #f7fafc; border: 1px solid var(--line); }
 rect.pass { fill: var(--pass); } rect.block { fill: var(--block); }

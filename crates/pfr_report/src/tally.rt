@@ -3,11 +3,13 @@ use crate::blocked::{BlockedFlows, Why};
 use crate::count::{ByVerdict, bytes_of};
 use crate::lines::Lines;
 use crate::spans::Spans;
+use pfr_asked::{Targets, Told, Traffic, is_translated, not_asked, targets_of};
 use pfr_capture::Form;
 use pfr_commit::Gate;
 use pfr_listing::Flow;
 use pfr_net::RuleNumber;
 use pfr_packet::{Outcome, Verdict};
+use pfr_ruleset::Ruleset;
 use pfr_shadows::Shadow;
 use pfr_show::{Met, Stopped, Taker};
 use pfr_track::Clock;
@@ -26,6 +28,10 @@ pub struct Counted<'a> {
     pub(crate) from: Clock,
     /// The clock at the last packet.
     pub(crate) to: Clock,
+    /// What the packets are, as far as it says which rules they could have asked.
+    traffic: Traffic,
+    /// The addresses that packets have behind their translation.
+    targets: Targets,
 }
 
 /// Counts packets, and tells a gate of them.
@@ -53,10 +59,13 @@ impl<'a> Counted<'a> {
     /// No packets of a run with these rules, of which some are shadowed.
     fn new(
         alloc: Global,
+        ruleset: &Ruleset,
         rules: &'a RulesTold<'a>,
         shadows: &[Shadow],
     ) -> Result<Counted<'a>, AllocError> {
         let lines = Lines::of(alloc, rules, shadows)?;
+        let traffic = Traffic::new(alloc, ruleset)?;
+        let targets = targets_of(alloc, ruleset, ruleset)?;
         Ok(Counted {
             rules,
             verdicts: ByVerdict::new(),
@@ -65,6 +74,8 @@ impl<'a> Counted<'a> {
             blocked: BlockedFlows::new(alloc),
             from: Clock(0),
             to: Clock(0),
+            traffic,
+            targets,
         })
     }
 
@@ -79,11 +90,25 @@ impl<'a> Counted<'a> {
             self.from = met.clock;
         }
         self.to = met.clock;
+        let is_translated = is_translated(met.packet, met.view, &self.targets, false);
+        self.traffic
+            .add(met.packet, met.view, outcome, is_translated);
         let bytes = bytes_of(met.view);
         self.verdicts.add(outcome.verdict, bytes);
         self.spans
             .add(u64::from(met.clock.0), outcome.verdict, bytes)?;
         self.add_rules(met, outcome, bytes)
+    }
+
+    /// Says of the lines of this ruleset which rules no packet could have asked.
+    fn leave_out(&mut self, alloc: Global, ruleset: &Ruleset) -> Result<(), AllocError> {
+        let told = Told {
+            rules: ruleset,
+            told: self.rules,
+        };
+        let rules = not_asked(alloc, told, &self.traffic)?;
+        self.lines.leave_out(rules.as_slice());
+        Ok(())
     }
 
     /// Counts a packet for the lines of its rules, and for its flow, if it is blocked.
@@ -94,9 +119,9 @@ impl<'a> Counted<'a> {
         if !is_blocked(outcome.verdict) {
             return Ok(());
         }
-        let why = match filter {
-            Some(line) => Why::Line(line),
-            None => Why::Reason(outcome.reason),
+        let why = Why {
+            line: filter,
+            reason: outcome.reason,
         };
         let wire = (met.packet.place, Flow::of(met.view));
         self.blocked.add(wire, met.number, why, bytes)
@@ -104,22 +129,28 @@ impl<'a> Counted<'a> {
 }
 
 impl<'a, G: Gate> Tally<'a, G> {
-    /// No packets of a run with these rules, of which some are shadowed.
+    /// No packets of a run with this ruleset, whose rules are told, and of which some are shadowed.
     pub fn new(
         alloc: Global,
+        ruleset: &Ruleset,
         rules: &'a RulesTold<'a>,
         shadows: &[Shadow],
         gate: &'a G,
     ) -> Result<Tally<'a, G>, AllocError> {
         Ok(Tally {
             gate,
-            counted: Counted::new(alloc, rules, shadows)?,
+            counted: Counted::new(alloc, ruleset, rules, shadows)?,
         })
     }
 
-    /// What was counted.
-    pub fn counted(&self) -> &Counted<'a> {
-        &self.counted
+    /// What was counted behind the last packet of a run with this ruleset.
+    pub fn counted(
+        &mut self,
+        alloc: Global,
+        ruleset: &Ruleset,
+    ) -> Result<&Counted<'a>, AllocError> {
+        self.counted.leave_out(alloc, ruleset)?;
+        Ok(&self.counted)
     }
 }
 

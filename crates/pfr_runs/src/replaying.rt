@@ -1,15 +1,19 @@
 //! What `pfreplay run` does.
-ghost use Rattle.std.specs.Prelude.{◌≡◌, ◌≤◌, Contains, IfOk, IfSome, length};
+ghost use Rattle.std.specs.Prelude.{◌≡◌, ◌≤◌, false, nat_lt, Contains, IfOk, IfSome, OnOk, length};
+ghost use Rattle.std.specs.List.{list_any};
 ghost use Rattle.pfr_command.specs.Outputs.{file_names};
+ghost use Rattle.pfr_files.specs.Standard.{is_standard, standard_inputs};
 ghost use Rattle.pfr_files.specs.Jobs as spec;
 
-use pfr_capture::{Sink, Source, Tail, WriterSink};
+use crate::host::Host;
+use pfr_capture::{Source, Tail, WriterSink};
 use pfr_command::{Messages, RunWords, inputs_of, outputs_of};
 use pfr_files::{
     CUT, Connection, DONE, Destination, Failure, Place, STANDARD, begin_progress, connected,
     created, has_standard, is_standard, job_by, repeated_output, repeats_input, sources,
 };
-use pfr_notices::{Meter, Two, Warning, Watch, warn};
+use pfr_headers::Tap;
+use pfr_notices::{Meter, Two, Wanted, Warning, Watch, warn};
 use pfr_out::{Form, Gate, PacketSinks, Report, RunSettings, Sinks, Sources, replay_job};
 use pfr_packet::Job;
 use pfr_prepare::prepared_text;
@@ -18,8 +22,6 @@ use std::alloc::{AllocError, AllocGlobal};
 use std::io::{ErrorKind, Read, Write};
 use std::net::Net;
 use std::rt::Files;
-use std::sync::Wait;
-use std::thread::Threads;
 use std::{fs, io};
 
 /// What takes an output, by the files and the network of a runtime, and by standard output.
@@ -29,14 +31,7 @@ type OutputSink<R, O> = WriterSink<
 
 /// Replays captures through a ruleset, and answers the status. If the words ask for warnings, `err` is told why a file
 /// wasn't opened.
-pub fn replay<
-    'a,
-    R: Files + Net + AllocGlobal + Threads + Wait + Sync,
-    I: Read + Drop,
-    O: Write + Copy,
-    E: Write,
-    M: Meter,
->(
+pub fn replay<'a, R: Host, I: Read + Drop, O: Write + Copy, E: Write, M: Meter>(
     rt: &R,
     asked: &RunWords<'a>,
     input: I,
@@ -44,15 +39,13 @@ pub fn replay<
     err: &mut E,
     meter: &M,
 ) -> Result<u8, Failure<'a>> {
-    match replay_words(rt, asked, input, out, err, meter) {
-        Ok(status) => Ok(status),
-        Err(failure) => {
-            if asked.warns {
-                warn_of(rt, failure, asked.captures.as_slice(), err);
-            }
-            Err(failure)
+    let ended = replay_words(rt, asked, input, out, err, meter);
+    if let Err(failure) = &ended {
+        if asked.warns {
+            warn_of(rt, *failure, asked.captures.as_slice(), err);
         }
     }
+    ended
 }
 
 /// Warns of what stands behind a failure, if the system says more of it.
@@ -83,14 +76,7 @@ fn warn_of_folder<'a, R: Files, E: Write>(rt: &R, words: Option<&CaptureWords<'a
 
 /// Replays captures through a ruleset, prints what there is to warn of, and how many packets were committed, and answers the status.
 /// If standard output takes an output of the run, that number goes to `err`.
-fn replay_words<
-    'a,
-    R: Files + Net + AllocGlobal + Threads + Wait + Sync,
-    I: Read + Drop,
-    O: Write + Copy,
-    E: Write,
-    M: Meter,
->(
+fn replay_words<'a, R: Host, I: Read + Drop, O: Write + Copy, E: Write, M: Meter>(
     rt: &R,
     asked: &RunWords<'a>,
     input: I,
@@ -98,44 +84,34 @@ fn replay_words<
     err: &mut E,
     meter: &M,
 ) -> Result<u8, Failure<'a>> {
-    let outputs = outputs_of(rt.alloc(), asked)?;
-    let ended = replay_to(rt, asked, outputs.as_slice(), input, out, err, meter);
-    drop(outputs);
-    ended
-}
-
-/// Does so with the names of all outputs.
-fn replay_to<
-    'a,
-    R: Files + Net + AllocGlobal + Threads + Wait + Sync,
-    I: Read + Drop,
-    O: Write + Copy,
-    E: Write,
-    M: Meter,
->(
-    rt: &R,
-    asked: &RunWords<'a>,
-    outputs: &[&'a str],
-    input: I,
-    out: &mut O,
-    err: &mut E,
-    meter: &M,
-) -> Result<u8, Failure<'a>>
-    requires { outputs.now ≡ file_names asked.now.captures asked.now.outputs }
-{
-    if repeats_input(asked.captures.as_slice()) {
-        return Err(Failure::same_file(STANDARD));
-    }
-    if let Some(name) = repeated(rt, asked, outputs)? {
-        return Err(Failure::same_file(name));
-    }
+    let is_taken = takes_standard(rt, asked)?;
     // A fault of the ruleset is reported before any other file is touched.
     let job = job_of(rt, asked, err)?;
     let report = watched(rt, asked, job, input, *out, err, meter)?;
-    if has_standard(outputs) {
-        return finish(&report, err);
+    if is_taken {
+        finish(&report, err)
+    } else {
+        finish(&report, out)
     }
-    finish(&report, out)
+}
+
+/// Whether standard output takes an output of the run. More than one capture from standard input is refused, and an output that is
+/// another file of the run.
+fn takes_standard<'a, R: Files + AllocGlobal>(
+    rt: &R,
+    asked: &RunWords<'a>,
+) -> Result<bool, Failure<'a>>
+    ensures taken { IfOk result (λ is_taken. is_taken ≡ list_any (λ name. is_standard name.now) (file_names asked.now.captures asked.now.outputs)) }
+    ensures input { OnOk result (nat_lt 1 (standard_inputs asked.now.captures) ≡ false) }
+{
+    let outputs = outputs_of(rt.alloc(), asked)?;
+    if repeats_input(asked.captures.as_slice()) {
+        return Err(Failure::same_file(STANDARD));
+    }
+    match repeated(rt, asked, outputs.as_slice())? {
+        Some(name) => Err(Failure::same_file(name)),
+        None => Ok(has_standard(outputs.as_slice())),
+    }
 }
 
 /// The name of the first of these outputs that is another file of the run.
@@ -152,14 +128,7 @@ fn repeated<'a, R: Files + AllocGlobal>(
 }
 
 /// Replays captures by a job, writes the outputs, and prints what there is to warn of.
-fn watched<
-    'a,
-    R: Files + Net + AllocGlobal + Threads + Wait + Sync,
-    I: Read + Drop,
-    O: Write + Copy,
-    E: Write,
-    M: Meter,
->(
+fn watched<'a, R: Host, I: Read + Drop, O: Write + Copy, E: Write, M: Meter>(
     rt: &R,
     asked: &RunWords<'a>,
     job: Job,
@@ -168,9 +137,24 @@ fn watched<
     err: &mut E,
     meter: &M,
 ) -> Result<Report, Failure<'a>> {
-    match Watch::new(rt.alloc(), job.rules(), asked.warns) {
+    let wanted = if asked.warns {
+        Wanted::Everything
+    } else {
+        Wanted::Nothing
+    };
+    let shows_wire = matches!(asked.ways.tap, Tap::Wire);
+    match Watch::new(rt.alloc(), job.rules(), wanted, shows_wire) {
         Ok(watch) => {
-            let ended = metered(rt, asked, job, &watch, input, out, err, meter);
+            begin_progress(rt, asked.progresses, asked.captures.as_slice(), meter);
+            let both = Two {
+                first: &watch,
+                second: meter,
+            };
+            let ended = replayed(rt, asked, job, input, out, err, &both);
+            meter.end();
+            if let Ok(report) = &ended {
+                watch.warn(report.committed, err);
+            }
             drop(watch);
             ended
         }
@@ -181,46 +165,8 @@ fn watched<
     }
 }
 
-/// Does so under a watch, which says what there is to warn of.
-fn metered<
-    'a,
-    R: Files + Net + AllocGlobal + Threads + Wait + Sync,
-    I: Read + Drop,
-    O: Write + Copy,
-    E: Write,
-    M: Meter,
->(
-    rt: &R,
-    asked: &RunWords<'a>,
-    job: Job,
-    watch: &Watch,
-    input: I,
-    out: O,
-    err: &mut E,
-    meter: &M,
-) -> Result<Report, Failure<'a>> {
-    begin_progress(rt, asked.progresses, asked.captures.as_slice(), meter);
-    let both = Two {
-        first: watch,
-        second: meter,
-    };
-    let ended = replayed(rt, asked, job, input, out, err, &both);
-    meter.end();
-    if let Ok(report) = &ended {
-        watch.warn(report.committed, err);
-    }
-    ended
-}
-
 /// Replays captures by a job, and writes the outputs. A gate is told of the packets.
-fn replayed<
-    'a,
-    R: Files + Net + AllocGlobal + Threads + Wait + Sync,
-    I: Read + Drop,
-    O: Write + Copy,
-    E: Write,
-    G: Gate,
->(
+fn replayed<'a, R: Host, I: Read + Drop, O: Write + Copy, E: Write, G: Gate>(
     rt: &R,
     asked: &RunWords<'a>,
     job: Job,
@@ -244,14 +190,7 @@ fn replayed<
 }
 
 /// Replays what these sources have by a job, and writes the outputs.
-fn replayed_from<
-    'a,
-    R: Files + Net + AllocGlobal + Threads + Wait + Sync,
-    S: Source,
-    O: Write + Copy,
-    E: Write,
-    G: Gate,
->(
+fn replayed_from<'a, R: Host, S: Source, O: Write + Copy, E: Write, G: Gate>(
     rt: &R,
     asked: &RunWords<'a>,
     job: Job,
@@ -262,39 +201,24 @@ fn replayed_from<
 ) -> Result<Report, Failure<'a>>
     requires { length sources.old ≤ 8 }
 {
-    match sinks(rt, asked, out) {
-        Ok(mut sinks) => {
-            let ended = replayed_into(rt, asked, job, sources, &mut sinks, err, gate);
-            drop(sinks);
-            ended
-        }
-        Err(failure) => {
-            drop(job);
-            Err(failure)
-        }
-    }
-}
-
-/// Replays what these sources have by a job into these sinks.
-fn replayed_into<'a, H: AllocGlobal + Threads + Wait + Sync, R: Source, S: Sink, E: Write, G: Gate>(
-    rt: &H,
-    asked: &RunWords<'a>,
-    job: Job,
-    sources: &mut Sources<R>,
-    sinks: &mut Sinks<S>,
-    err: &mut E,
-    gate: &G,
-) -> Result<Report, Failure<'a>>
-    requires { length sources.old ≤ 8 }
-{
     let settings = RunSettings {
         batch: asked.batch,
         workers: asked.workers,
         form: form_of(&asked.outputs.messages),
     };
-    match replay_job(rt, sources, job, settings, sinks, gate) {
-        Ok(report) => Ok(report),
-        Err(stop) => Err(Failure::of_run(&stop, asked.captures.as_slice(), err)),
+    match sinks(rt, asked, out) {
+        Ok(mut sinks) => {
+            let ended = replay_job(rt, sources, job, settings, &mut sinks, gate);
+            drop(sinks);
+            match ended {
+                Ok(report) => Ok(report),
+                Err(stop) => Err(Failure::of_run(&stop, asked.captures.as_slice(), err)),
+            }
+        }
+        Err(failure) => {
+            drop(job);
+            Err(failure)
+        }
     }
 }
 

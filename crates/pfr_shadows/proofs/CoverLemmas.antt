@@ -10,10 +10,10 @@ use Rattle.pfr_ruleset.specs.declared.flat.FlagsCriterion.TheVariants as flags
 use Rattle.pfr_ruleset.specs.declared.flat.FlatRule.{FlatRule}
 use Rattle.pfr_ruleset.specs.declared.flat.PacketMatch.{PacketMatch}
 use Rattle.pfr_ruleset.specs.declared.hosts.HostCriterion.{HostCriterion}
-use Rattle.pfr_ruleset.specs.declared.icmp.IcmpMatch.{IcmpMatch}
-use Rattle.pfr_ruleset.specs.declared.port.Comparison.TheVariants.{Equal}
-use Rattle.pfr_ruleset.specs.declared.port.PortMatch.{PortMatch}
-use Rattle.pfr_ruleset.specs.declared.port.PortMatch.TheVariants.{Compare}
+use Rattle.pfr_net.specs.declared.icmp_match.IcmpMatch.{IcmpMatch}
+use Rattle.pfr_net.specs.declared.port_match.Comparison.TheVariants.{Equal}
+use Rattle.pfr_net.specs.declared.port_match.PortMatch.{PortMatch}
+use Rattle.pfr_net.specs.declared.port_match.PortMatch.TheVariants.{Compare}
 use Rattle.pfr_ruleset.specs.declared.table.Entry.{Entry}
 use Rattle.pfr_criteria.specs.Hosts.{host_holds}
 use Rattle.pfr_criteria.specs.Packets.{match_holds, rule_holds}

@@ -1,1 +1,2 @@
 mod CoverLemmas
+mod DecidingLemmas

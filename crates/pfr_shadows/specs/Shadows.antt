@@ -1,5 +1,5 @@
 -- Rules that hold wherever others do, and rules that never decide for that.
-use Rattle.std.specs.Prelude.{◌≡◌, ℕ, Bool, true, false, not, ◌&&◌, ◌||◌, nat_lt, nat_le, List, Option, Some, None, is_none}
+use Rattle.std.specs.Prelude.{◌≡◌, ◌≢◌, ℕ, Bool, true, false, not, ◌&&◌, ◌||◌, nat_lt, nat_le, List, Option, Some, None, is_none}
 use Rattle.std.specs.List.{list_all, slice_get}
 use Rattle.pfr_net.specs.declared.address.Ipv4Address.{Ipv4Address}
 use Rattle.pfr_net.specs.declared.direction.Direction.{Direction}
@@ -14,11 +14,11 @@ use Rattle.pfr_ruleset.specs.declared.flat.PacketMatch.{PacketMatch}
 use Rattle.pfr_ruleset.specs.declared.flat.StateRule.{StateRule}
 use Rattle.pfr_ruleset.specs.declared.hosts.HostCriterion.{HostCriterion}
 use Rattle.pfr_ruleset.specs.declared.hosts.HostSet.TheVariants.{Any, Network}
-use Rattle.pfr_ruleset.specs.declared.icmp.IcmpMatch.{IcmpMatch}
+use Rattle.pfr_net.specs.declared.icmp_match.IcmpMatch.{IcmpMatch}
 use Rattle.pfr_ruleset.specs.declared.interface.InterfaceCriterion.{InterfaceCriterion}
-use Rattle.pfr_ruleset.specs.declared.port.Comparison.TheVariants.{Equal}
-use Rattle.pfr_ruleset.specs.declared.port.PortMatch.{PortMatch}
-use Rattle.pfr_ruleset.specs.declared.port.PortMatch.TheVariants.{Compare}
+use Rattle.pfr_net.specs.declared.port_match.Comparison.TheVariants.{Equal}
+use Rattle.pfr_net.specs.declared.port_match.PortMatch.{PortMatch}
+use Rattle.pfr_net.specs.declared.port_match.PortMatch.TheVariants.{Compare}
 use Rattle.pfr_ruleset.specs.declared.ruleset.Ruleset.{Ruleset}
 use Rattle.pfr_ruleset.specs.declared.table.Entry.{Entry}
 use Rattle.pfr_headers.specs.declared.packet.Packet.{Packet}
@@ -26,6 +26,7 @@ use Rattle.pfr_headers.specs.declared.transport.Transport.{Transport}
 use Rattle.pfr_criteria.specs.Hosts.{host_holds}
 use Rattle.pfr_criteria.specs.Packets.{direction_holds, interface_holds, match_holds, protocol_holds, rule_holds}
 use Rattle.pfr_criteria.specs.Transports.{flags_hold, icmp_holds, port_asked, port_holds}
+use Rattle.pfr_rules.specs.Filter.{Rooms, deciding}
 
 -- ---- one criterion holds wherever another one does
 
@@ -120,3 +121,10 @@ pub record IsShadow (r : Ruleset) (rule by : ℕ) : Type 0 where
   pub decides : comes_to_decide r.filter.anchors by rule wide narrow ≡ true
   pub room : has_room wide ≡ true
   pub holds : Covers r.tables wide narrow
+
+-- a shadowed rule decides on no packet, whichever rules with `max` have room
+abbrev pub ShadowedDecideNone : Type 0
+ShadowedDecideNone =
+    (r : Ruleset) (rule by : ℕ) (rooms : Rooms) (name : IfName) (packet : Packet) (direction : Direction)
+    → IsShadow r rule by
+    → deciding r rooms name packet direction ≢ Some rule

@@ -6,8 +6,8 @@ use crate::same::{
     are_same_flags, is_same_icmp, is_same_interface, is_same_port, is_same_protocol,
 };
 use pfr_criteria::transports::port_holds;
-use pfr_net::{Direction, Protocol};
-use pfr_ruleset::{Comparison, FlagsCriterion, IcmpMatch, InterfaceCriterion, PortMatch};
+use pfr_net::{Comparison, Direction, IcmpMatch, PortMatch, Protocol};
+use pfr_ruleset::{FlagsCriterion, InterfaceCriterion};
 
 /// Whether the direction `wide` holds wherever `narrow` does.
 pub(crate) fn direction_covers(wide: Option<Direction>, narrow: Option<Direction>) -> bool

@@ -9,6 +9,7 @@
 mod criteria;
 mod finding;
 mod hosts;
+pub mod laws;
 mod rules;
 mod same;
 

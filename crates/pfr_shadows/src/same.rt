@@ -1,8 +1,8 @@
 //! Whether two rules ask for the same.
 ghost use Rattle.std.specs.Prelude.{◌≡◌, true};
 
-use pfr_net::Protocol;
-use pfr_ruleset::{FlagsCriterion, HostCriterion, IcmpMatch, InterfaceCriterion, PortMatch};
+use pfr_net::{IcmpMatch, PortMatch, Protocol};
+use pfr_ruleset::{FlagsCriterion, HostCriterion, InterfaceCriterion};
 
 pub(crate) fn is_same_interface(one: &InterfaceCriterion, other: &InterfaceCriterion) -> bool
     ensures { result ≡ true → one.now ≡ other.now }

@@ -2,30 +2,14 @@
 use crate::shown::{Named, Shown};
 use crate::text::append_flags;
 use pfr_headers::{Packet, Transport, View};
-use pfr_listing::{End, Flow, put_string, reason_word, verdict_word};
+use pfr_listing::{Flow, put_count, put_option, put_string, reason_word, verdict_word};
 use pfr_net::Direction;
 use pfr_packet::Outcome;
-use pfr_texts::{append_address, append_number};
 use std::alloc::AllocError;
 
-/// What stands for the names of a packet that isn't IPv4, or is too short.
-const NO_PACKET: &[u8] =
-    b",\"protocol\":null,\"source\":null,\"destination\":null,\"flags\":null,\"icmp_type\":null,\"icmp_code\":null,\"fragment\":null,\"length\":null";
-
-/// Appends `lead` and a number.
-fn append_count(text: &mut Vec<u8>, lead: &[u8], number: u64) -> Result<(), AllocError> {
-    text.extend_from_slice(lead)?;
-    append_number(text, number)
-}
-
-/// Appends `lead` and a number, or null.
-fn append_option(text: &mut Vec<u8>, lead: &[u8], number: Option<u64>) -> Result<(), AllocError> {
-    text.extend_from_slice(lead)?;
-    match number {
-        Some(number) => append_number(text, number),
-        None => text.extend_from_slice(b"null"),
-    }
-}
+/// What stands for the headers of a packet that isn't IPv4, or is too short.
+const NO_HEADERS: &[u8] =
+    b",\"flags\":null,\"icmp_type\":null,\"icmp_code\":null,\"fragment\":null,\"length\":null";
 
 /// Appends `number_lead` and the number of a rule, and `line_lead` and its line.
 fn append_rule(
@@ -36,12 +20,12 @@ fn append_rule(
 ) -> Result<(), AllocError> {
     match rule {
         Some(rule) => {
-            append_count(text, number_lead, rule.number)?;
-            append_count(text, line_lead, rule.told.line as u64)
+            put_count(text, number_lead, rule.number)?;
+            put_count(text, line_lead, rule.told.line as u64)
         }
         None => {
-            append_option(text, number_lead, None)?;
-            append_option(text, line_lead, None)
+            put_option(text, number_lead, None)?;
+            put_option(text, line_lead, None)
         }
     }
 }
@@ -62,19 +46,6 @@ fn append_outcome(text: &mut Vec<u8>, outcome: &Outcome) -> Result<(), AllocErro
     text.extend_from_slice(b"\"")
 }
 
-/// Appends `lead` and an end.
-fn append_end(text: &mut Vec<u8>, lead: &[u8], end: End) -> Result<(), AllocError> {
-    text.extend_from_slice(lead)?;
-    text.extend_from_slice(b"{\"address\":\"")?;
-    append_address(text, end.address)?;
-    let port = match end.port {
-        Some(port) => Some(u64::from(port.0)),
-        None => None,
-    };
-    append_option(text, b"\",\"port\":", port)?;
-    text.extend_from_slice(b"}")
-}
-
 /// Appends TCP's flags, or null for other packets.
 fn append_tcp(text: &mut Vec<u8>, transport: &Transport) -> Result<(), AllocError> {
     match transport {
@@ -93,8 +64,8 @@ fn append_icmp(text: &mut Vec<u8>, transport: &Transport) -> Result<(), AllocErr
         Transport::Icmp(header) => (Some(u64::from(header.kind.0)), Some(u64::from(header.code))),
         _ => (None, None),
     };
-    append_option(text, b",\"icmp_type\":", kind)?;
-    append_option(text, b",\"icmp_code\":", code)
+    put_option(text, b",\"icmp_type\":", kind)?;
+    put_option(text, b",\"icmp_code\":", code)
 }
 
 /// Appends what the headers of a packet say.
@@ -107,27 +78,24 @@ fn append_headers(text: &mut Vec<u8>, packet: &Packet) -> Result<(), AllocError>
     };
     text.extend_from_slice(b",\"fragment\":")?;
     text.extend_from_slice(fragment)?;
-    append_count(text, b",\"length\":", u64::from(packet.total_length))
+    put_count(text, b",\"length\":", u64::from(packet.total_length))
 }
 
 /// Appends what a packet is.
 fn append_view(text: &mut Vec<u8>, view: &View) -> Result<(), AllocError> {
-    match (view, Flow::of(view)) {
-        (View::Ipv4(packet), Flow::Between(protocol, source, destination)) => {
-            append_count(text, b",\"protocol\":", u64::from(protocol.0))?;
-            append_end(text, b",\"source\":", source)?;
-            append_end(text, b",\"destination\":", destination)?;
-            append_headers(text, packet)
-        }
-        _ => text.extend_from_slice(NO_PACKET),
+    text.extend_from_slice(b",")?;
+    Flow::of(view).put_json(text)?;
+    match view {
+        View::Ipv4(packet) => append_headers(text, packet),
+        View::Skip | View::Short => text.extend_from_slice(NO_HEADERS),
     }
 }
 
 /// Appends the object of a packet.
 pub(crate) fn append_json(text: &mut Vec<u8>, shown: &Shown<'_>) -> Result<(), AllocError> {
-    append_count(text, b"{\"number\":", shown.met.number)?;
-    append_count(text, b",\"seconds\":", u64::from(shown.moment.seconds))?;
-    append_count(text, b",\"nanoseconds\":", shown.moment.nanoseconds)?;
+    put_count(text, b"{\"number\":", shown.met.number)?;
+    put_count(text, b",\"seconds\":", u64::from(shown.moment.seconds))?;
+    put_count(text, b",\"nanoseconds\":", shown.moment.nanoseconds)?;
     text.extend_from_slice(b",\"interface\":")?;
     put_string(text, shown.interface.as_bytes())?;
     append_outcome(text, shown.outcome)?;
@@ -142,8 +110,8 @@ pub(crate) fn append_json(text: &mut Vec<u8>, shown: &Shown<'_>) -> Result<(), A
         Some(state) => Some(state.0),
         None => None,
     };
-    append_option(text, b",\"state\":", state)?;
+    put_option(text, b",\"state\":", state)?;
     append_view(text, shown.met.view)?;
-    append_count(text, b",\"captured\":", shown.met.packet.bytes.len() as u64)?;
+    put_count(text, b",\"captured\":", shown.met.packet.bytes.len() as u64)?;
     text.extend_from_slice(b"}\n")
 }

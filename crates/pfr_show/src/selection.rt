@@ -2,7 +2,8 @@
 use crate::joining::{Met, is_short};
 use crate::shown::Shown;
 use pfr_headers::View;
-use pfr_net::Net;
+use pfr_listing::Flow;
+use pfr_net::{Net, Port, Protocol};
 use pfr_packet::{Reason, Verdict};
 
 /// Verdicts.
@@ -25,6 +26,10 @@ pub struct Selection {
     pub line: Option<u64>,
     /// Those from or to an address of this network.
     pub host: Option<Net>,
+    /// Those from or to this port.
+    pub port: Option<Port>,
+    /// Those of this protocol.
+    pub protocol: Option<Protocol>,
     /// Those that pf would log.
     pub logged: bool,
 }
@@ -45,6 +50,24 @@ fn has_host(met: &Met<'_>, network: &Net) -> bool {
     match met.view {
         View::Ipv4(packet) => network.holds(packet.source) || network.holds(packet.destination),
         View::Skip | View::Short => false,
+    }
+}
+
+/// Whether a packet comes from or goes to a port.
+fn has_port(met: &Met<'_>, port: Port) -> bool {
+    match Flow::of(met.view) {
+        Flow::Between(_, source, destination) => {
+            source.port == Some(port) || destination.port == Some(port)
+        }
+        Flow::NotIp | Flow::Short => false,
+    }
+}
+
+/// Whether a packet is one of a protocol.
+fn has_protocol(met: &Met<'_>, protocol: Protocol) -> bool {
+    match Flow::of(met.view) {
+        Flow::Between(carried, _, _) => carried == protocol,
+        Flow::NotIp | Flow::Short => false,
     }
 }
 
@@ -83,6 +106,24 @@ fn has_rule(shown: &Shown<'_>, number: u64) -> bool {
 }
 
 impl Selection {
+    /// Whether a packet has the ends and the protocol that are asked for.
+    fn takes(&self, met: &Met<'_>) -> bool {
+        if let Some(network) = &self.host {
+            if !has_host(met, network) {
+                return false;
+            }
+        }
+        if let Some(port) = self.port {
+            if !has_port(met, port) {
+                return false;
+            }
+        }
+        match self.protocol {
+            Some(protocol) => has_protocol(met, protocol),
+            None => true,
+        }
+    }
+
     /// Whether a packet is shown.
     pub(crate) fn holds(&self, shown: &Shown<'_>) -> bool {
         if let Some(verdicts) = self.verdicts {
@@ -100,10 +141,8 @@ impl Selection {
                 return false;
             }
         }
-        if let Some(network) = &self.host {
-            if !has_host(&shown.met, network) {
-                return false;
-            }
+        if !self.takes(&shown.met) {
+            return false;
         }
         !self.logged || is_logged(shown)
     }

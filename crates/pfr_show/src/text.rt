@@ -4,9 +4,8 @@ use crate::shown::{Named, Shown};
 use bitflags::Flags;
 use pfr_headers::{IcmpHeader, Packet, TcpFlags, Transport, View};
 use pfr_listing::{Flow, reason_word, verdict_word};
-use pfr_net::Direction;
+use pfr_net::{Direction, FlagSet};
 use pfr_packet::Outcome;
-use pfr_ruleset::FlagSet;
 use pfr_texts::append_number;
 use pfr_wording::append_letters;
 use std::alloc::AllocError;
@@ -53,20 +52,9 @@ fn append_packet(text: &mut Vec<u8>, packet: &Packet) -> Result<(), AllocError> 
 
 /// Appends `rule N LLINE`, with another word for its kind.
 fn append_rule(text: &mut Vec<u8>, kind: &[u8], rule: Named<'_>) -> Result<(), AllocError> {
-    append_kind(text, kind)?;
+    text.extend_from_slice(kind)?;
     append_counted(text, b" ", rule.number)?;
     append_counted(text, b" L", rule.told.line as u64)
-}
-
-/// Appends the first of some words that isn't `no`.
-fn append_kind(text: &mut Vec<u8>, words: &[u8]) -> Result<(), AllocError> {
-    for byte in words.strip_prefix(b"no ".as_slice()).unwrap_or(words) {
-        if *byte == b' ' {
-            return Ok(());
-        }
-        text.push(*byte)?;
-    }
-    Ok(())
 }
 
 /// Appends the rules that are named.
@@ -78,7 +66,7 @@ fn append_rules(text: &mut Vec<u8>, shown: &Shown<'_>) -> Result<(), AllocError>
     match shown.translation {
         Some(rule) => {
             text.extend_from_slice(b", ")?;
-            append_rule(text, rule.told.words, rule)
+            append_rule(text, rule.told.kind(), rule)
         }
         None => Ok(()),
     }

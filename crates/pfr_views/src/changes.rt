@@ -4,13 +4,14 @@ ghost use Rattle.std.specs.Prelude.{◌≡◌, ◌≤◌, length};
 use crate::rules::rules_of;
 use pfr_capture::Source;
 use pfr_command::DiffWords;
-use pfr_diff::{BothTold, Compared, Side, Stopped, compare};
+use pfr_diff::{BothTold, Compared, Side, Stopped, Told, compare};
 use pfr_feed::Sources;
 use pfr_files::{
-    CHANGED, DONE, Failure, Place, REFUSED, STANDARD, begin_progress, job_by, names_of, print,
-    print_piece, repeats_input, sources,
+    CHANGED, DONE, Failure, Place, REFUSED, STANDARD, UNJUDGED, begin_progress, job_by, names_of,
+    print, print_piece, repeats_input, sources,
 };
-use pfr_notices::Meter;
+use pfr_headers::Tap;
+use pfr_notices::{Meter, Two, Wanted, Watch};
 use pfr_packet::Job;
 use pfr_prepare::{Prepared, Request, prepared_text};
 use pfr_wording::{Rules, RulesTold};
@@ -49,7 +50,7 @@ pub fn tell_changes<'a, R: Files + AllocGlobal, I: Read + Drop, O: Write, E: Wri
     }
     let old = with_ruleset(rt, asked, &asked.old, err)?;
     match with_ruleset(rt, asked, &asked.new, err) {
-        Ok(new) => compare_ruled(rt, asked, old, new, input, out, meter),
+        Ok(new) => compare_ruled(rt, asked, old, new, input, out, err, meter),
         Err(failure) => {
             drop(old);
             Err(failure)
@@ -58,13 +59,14 @@ pub fn tell_changes<'a, R: Files + AllocGlobal, I: Read + Drop, O: Write, E: Wri
 }
 
 /// Has two runs take the packets of captures, and prints what changes.
-fn compare_ruled<'a, R: Files + AllocGlobal, I: Read + Drop, O: Write, M: Meter>(
+fn compare_ruled<'a, R: Files + AllocGlobal, I: Read + Drop, O: Write, E: Write, M: Meter>(
     rt: &R,
     asked: &DiffWords<'a>,
     old: Ruled,
     new: Ruled,
     input: I,
     out: &mut O,
+    err: &mut E,
     meter: &M,
 ) -> Result<u8, Failure<'a>> {
     let Ruled {
@@ -78,7 +80,7 @@ fn compare_ruled<'a, R: Files + AllocGlobal, I: Read + Drop, O: Write, M: Meter>
         ..
     } = new;
     let sides = Sides { before, after };
-    let ended = compare_rules(rt, asked, sides, &old, &new, input, out, meter);
+    let ended = compare_rules(rt, asked, sides, &old, &new, input, out, err, meter);
     drop(new);
     drop(old);
     ended
@@ -127,8 +129,8 @@ fn with_rules<'a>(alloc: Global, job: Job, rules: Rules) -> Result<Ruled, Failur
     }
 }
 
-/// Does so with the rules of each.
-fn compare_rules<'a, R: Files + AllocGlobal, I: Read + Drop, O: Write, M: Meter>(
+/// Has two runs with these rules take the packets of captures, and prints what changes.
+fn compare_rules<'a, R: Files + AllocGlobal, I: Read + Drop, O: Write, E: Write, M: Meter>(
     rt: &R,
     asked: &DiffWords<'a>,
     sides: Sides,
@@ -136,11 +138,12 @@ fn compare_rules<'a, R: Files + AllocGlobal, I: Read + Drop, O: Write, M: Meter>
     new: &Rules,
     input: I,
     out: &mut O,
+    err: &mut E,
     meter: &M,
 ) -> Result<u8, Failure<'a>> {
     match old.told(rt.alloc()) {
         Ok(old) => {
-            let ended = compare_told(rt, asked, sides, &old, new, input, out, meter);
+            let ended = compare_told(rt, asked, sides, &old, new, input, out, err, meter);
             drop(old);
             ended
         }
@@ -151,8 +154,8 @@ fn compare_rules<'a, R: Files + AllocGlobal, I: Read + Drop, O: Write, M: Meter>
     }
 }
 
-/// Does so with the old rules as they are told.
-fn compare_told<'a, R: Files + AllocGlobal, I: Read + Drop, O: Write, M: Meter>(
+/// Has two runs take the packets of captures, and prints what changes. The old rules are told already.
+fn compare_told<'a, R: Files + AllocGlobal, I: Read + Drop, O: Write, E: Write, M: Meter>(
     rt: &R,
     asked: &DiffWords<'a>,
     sides: Sides,
@@ -160,12 +163,13 @@ fn compare_told<'a, R: Files + AllocGlobal, I: Read + Drop, O: Write, M: Meter>(
     new: &Rules,
     input: I,
     out: &mut O,
+    err: &mut E,
     meter: &M,
 ) -> Result<u8, Failure<'a>> {
     match new.told(rt.alloc()) {
         Ok(new) => {
             let told = BothTold { old, new: &new };
-            let ended = compare_captures(rt, asked, sides, told, input, out, meter);
+            let ended = compare_captures(rt, asked, sides, told, input, out, err, meter);
             drop(new);
             ended
         }
@@ -177,13 +181,14 @@ fn compare_told<'a, R: Files + AllocGlobal, I: Read + Drop, O: Write, M: Meter>(
 }
 
 /// Opens the captures, has two runs take their packets, and prints what changes.
-fn compare_captures<'a, R: Files + AllocGlobal, I: Read + Drop, O: Write, M: Meter>(
+fn compare_captures<'a, R: Files + AllocGlobal, I: Read + Drop, O: Write, E: Write, M: Meter>(
     rt: &R,
     asked: &DiffWords<'a>,
     sides: Sides,
     told: BothTold<'_>,
     input: I,
     out: &mut O,
+    err: &mut E,
     meter: &M,
 ) -> Result<u8, Failure<'a>> {
     let captures = asked.captures.as_slice();
@@ -191,7 +196,16 @@ fn compare_captures<'a, R: Files + AllocGlobal, I: Read + Drop, O: Write, M: Met
     begin_progress(rt, asked.progresses, captures, meter);
     match sources(rt, captures, addresses, input) {
         Ok(mut sources) => {
-            let ended = compare_sources(rt.alloc(), asked, sides, told, &mut sources, out, meter);
+            let ended = compare_sources(
+                rt.alloc(),
+                asked,
+                sides,
+                told,
+                &mut sources,
+                out,
+                err,
+                meter,
+            );
             drop(sources);
             ended
         }
@@ -202,18 +216,63 @@ fn compare_captures<'a, R: Files + AllocGlobal, I: Read + Drop, O: Write, M: Met
     }
 }
 
-/// Has two runs take the packets of sources, and prints what changes.
-fn compare_sources<'a, S: Source, O: Write, M: Meter>(
+/// Has two runs take the packets of sources, and prints what changes, and what there is to warn of.
+fn compare_sources<'a, S: Source, O: Write, E: Write, M: Meter>(
     alloc: Global,
     asked: &DiffWords<'a>,
     sides: Sides,
     told: BothTold<'_>,
     sources: &mut Sources<S>,
     out: &mut O,
+    err: &mut E,
     meter: &M,
 ) -> Result<u8, Failure<'a>>
     requires { length sources.old ≤ 8 }
 {
+    let wanted = if asked.warns {
+        Wanted::Beside
+    } else {
+        Wanted::Nothing
+    };
+    let rules = sides.after.book.job().rules();
+    match Watch::new(alloc, rules, wanted, shows_wire(asked)) {
+        Ok(watch) => {
+            let ended = compare_watched(
+                alloc, asked, sides, told, sources, out, err, meter, &watch,
+            );
+            drop(watch);
+            ended
+        }
+        Err(refused) => {
+            drop(sides);
+            Err(Failure::from(refused))
+        }
+    }
+}
+
+/// Whether the captures show packets as they are on the wire.
+fn shows_wire(asked: &DiffWords<'_>) -> bool {
+    matches!(asked.ways.tap, Tap::Wire)
+}
+
+/// Has two runs take the packets of sources, of which the new one is watched, and prints what changes.
+fn compare_watched<'a, S: Source, O: Write, E: Write, M: Meter>(
+    alloc: Global,
+    asked: &DiffWords<'a>,
+    sides: Sides,
+    told: BothTold<'_>,
+    sources: &mut Sources<S>,
+    out: &mut O,
+    err: &mut E,
+    meter: &M,
+    watch: &Watch,
+) -> Result<u8, Failure<'a>>
+    requires { length sources.old ≤ 8 }
+{
+    let gate = Two {
+        first: watch,
+        second: meter,
+    };
     let found = compare(
         alloc,
         sources,
@@ -221,11 +280,15 @@ fn compare_sources<'a, S: Source, O: Write, M: Meter>(
         sides.after,
         told,
         asked.verdicts_alone,
-        meter,
+        shows_wire(asked),
+        &gate,
     );
     meter.end();
     match found {
-        Ok(compared) => print_changes(alloc, asked, &compared, out),
+        Ok(compared) => {
+            watch.warn(compared.packets, err);
+            print_changes(alloc, asked, &compared, out)
+        }
         Err(stopped) => Err(failure_of(stopped, asked)),
     }
 }
@@ -253,26 +316,32 @@ fn print_changes<'a, O: Write>(
     out: &mut O,
 ) -> Result<u8, Failure<'a>> {
     let names = names_of(alloc, asked.captures.as_slice())?;
-    print_flows(alloc, names.as_slice(), compared, out)?;
-    if compared.changes.is_empty() {
-        Ok(DONE)
-    } else {
+    let told = compared.told(alloc)?;
+    print_told(alloc, asked.as_json, names.as_slice(), compared, &told, out)?;
+    if !compared.changes.is_empty() {
         Ok(CHANGED)
+    } else if compared.is_unjudged() {
+        Ok(UNJUDGED)
+    } else {
+        Ok(DONE)
     }
 }
 
-/// Prints each flow that changes, and behind them the sums. Flows are of interfaces with these names.
-fn print_flows<'a, O: Write>(
+/// Prints each packet that is a cause, and behind them the sums. Packets are of interfaces with these names.
+fn print_told<'a, O: Write>(
     alloc: Global,
+    as_json: bool,
     names: &[&str],
     compared: &Compared<'_>,
+    told: &Told<'_>,
     out: &mut O,
 ) -> Result<u8, Failure<'a>> {
     let mut text = Vec::new(alloc);
-    for place in 0..compared.changes.len() {
-        compared.changes.append_flow(&mut text, names, place)?;
+    for place in 0..told.len() {
+        told.append_cause(as_json, names, place, &mut text)?;
         print_piece(out, &mut text)?;
     }
-    compared.append_sums(alloc, &mut text)?;
+    told.append_sums(as_json, &mut text)?;
+    compared.append_end(alloc, as_json, &mut text)?;
     print(out, text.as_slice())
 }

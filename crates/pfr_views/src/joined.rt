@@ -49,7 +49,7 @@ pub(crate) fn take_joined<'a, R: Files + AllocGlobal, I: Read + Drop, T: Taker>(
     }
 }
 
-/// Does so with what gives the lines of verdicts, and with what stands for standard input among the captures.
+/// Joins packets with the lines that an input has, and hands them on. Another input stands for standard input among the captures.
 fn take_lines<'a, R: Files + AllocGlobal, I: Read + Drop, L: Read + Drop, T: Taker>(
     rt: &R,
     words: &JoinedWords<'a>,
@@ -66,7 +66,7 @@ fn take_lines<'a, R: Files + AllocGlobal, I: Read + Drop, L: Read + Drop, T: Tak
     ended
 }
 
-/// Does so with what reads these lines.
+/// Opens the captures, joins their packets with lines, and hands them on.
 fn take_read<'a, R: Files + AllocGlobal, I: Read + Drop, L: BufRead, T: Taker>(
     rt: &R,
     words: &JoinedWords<'a>,
@@ -82,7 +82,7 @@ fn take_read<'a, R: Files + AllocGlobal, I: Read + Drop, L: BufRead, T: Taker>(
     ended
 }
 
-/// Does so with the sources of the captures.
+/// Joins the packets of sources with lines, and hands them on.
 fn take_sources<'a, S: Source, L: BufRead, T: Taker>(
     alloc: Global,
     words: &JoinedWords<'a>,

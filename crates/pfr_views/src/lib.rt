@@ -7,6 +7,7 @@ mod changes;
 mod joined;
 mod reporting;
 mod rules;
+mod rules_json;
 mod show;
 mod states;
 

@@ -1,12 +1,13 @@
 //! What `pfreplay rules` does, and the rules of a ruleset for the other commands.
+use crate::rules_json::print_objects;
 use pfr_command::RulesWords;
 use pfr_expand::ruleset_of;
 use pfr_files::{Failure, Place, REFUSED, opened, print, text_of, text_refused};
-use pfr_listing::{Refused, RuleCounts, counters_in};
+use pfr_listing::{Refused, counters_in};
 use pfr_prepare::{Prepared, Request, prepared_text};
 use pfr_ruleset::Ruleset;
 use pfr_shadows::{Shadow, shadows};
-use pfr_wording::{Rules, Said, Untold};
+use pfr_wording::{RuleCounts, Rules, Said, Untold};
 use std::alloc::Global;
 use std::io::Write;
 use std::rt::Files;
@@ -35,18 +36,50 @@ fn print_told<'a, R: Files + AllocGlobal, O: Write>(
     out: &mut O,
 ) -> Result<u8, Failure<'a>> {
     let counts = counts_of(rt, asked.counters, &told.rules)?;
-    print_rules(
+    print_counted(
         rt.alloc(),
-        &told.rules,
+        told,
         counts.as_ref(),
         told.shadows.as_slice(),
+        asked.as_json,
         out,
     )
 }
 
-/// The rules of a ruleset, and those that are shadowed.
+/// Prints rules, with what a run counted of them, if that is known, and by which others they are shadowed.
+fn print_counted<'a, 's, O: Write>(
+    alloc: Global,
+    told: &Told,
+    counts: Option<&'s RuleCounts>,
+    shadows: &'s [Shadow],
+    as_json: bool,
+    out: &mut O,
+) -> Result<u8, Failure<'a>> {
+    let said = Said { counts, shadows };
+    if as_json {
+        print_as_json(alloc, told, said, out)
+    } else {
+        print_rules(alloc, &told.rules, said, out)
+    }
+}
+
+/// Prints rules as JSON, with what is said of them.
+fn print_as_json<'a, O: Write>(
+    alloc: Global,
+    told: &Told,
+    said: Said<'_>,
+    out: &mut O,
+) -> Result<u8, Failure<'a>> {
+    let rules = told.rules.told(alloc)?;
+    let ended = print_objects(alloc, out, &rules, told.ruleset.filter.anchors(), said);
+    drop(rules);
+    ended
+}
+
+/// A ruleset, its rules as they are told, and those that are shadowed.
 #[derive(Drop)]
 pub(crate) struct Told {
+    pub(crate) ruleset: Ruleset,
     pub(crate) rules: Rules,
     pub(crate) shadows: Vec<Shadow>,
 }
@@ -59,16 +92,35 @@ pub(crate) fn told_in<'a, E: Write>(
     err: &mut E,
 ) -> Result<Told, Failure<'a>> {
     match ruleset_of(alloc, text.text.as_slice(), request.interfaces.as_slice()) {
-        Ok(ruleset) => told_of(alloc, text, &ruleset),
+        Ok(ruleset) => told_of(alloc, text, ruleset),
         Err(fault) => Err(text_refused(None, text, &fault, err)),
     }
 }
 
+/// What is told of a ruleset that this text means.
+fn told_of<'a>(alloc: Global, text: &Prepared, ruleset: Ruleset) -> Result<Told, Failure<'a>> {
+    match rules_and_shadows(alloc, text, &ruleset) {
+        Ok((rules, shadows)) => Ok(Told {
+            ruleset,
+            rules,
+            shadows,
+        }),
+        Err(failure) => {
+            drop(ruleset);
+            Err(failure)
+        }
+    }
+}
+
 /// The rules of a ruleset that this text means, and those that are shadowed.
-fn told_of<'a>(alloc: Global, text: &Prepared, ruleset: &Ruleset) -> Result<Told, Failure<'a>> {
+fn rules_and_shadows<'a>(
+    alloc: Global,
+    text: &Prepared,
+    ruleset: &Ruleset,
+) -> Result<(Rules, Vec<Shadow>), Failure<'a>> {
     let shadows = shadows(alloc, ruleset)?;
     let rules = rules_of(alloc, text, ruleset)?;
-    Ok(Told { rules, shadows })
+    Ok((rules, shadows))
 }
 
 /// The rules of a ruleset's text. A fault of the text is said to `err`.
@@ -146,15 +198,13 @@ fn counters_refused<'a>(refused: Refused) -> Failure<'a> {
     }
 }
 
-/// Prints rules, with what a run counted of them, if that is known, and by which others they are shadowed.
-fn print_rules<'a, 's, O: Write>(
+/// Prints rules, with what is said of them.
+fn print_rules<'a, O: Write>(
     alloc: Global,
     rules: &Rules,
-    counts: Option<&'s RuleCounts>,
-    shadows: &'s [Shadow],
+    said: Said<'_>,
     out: &mut O,
 ) -> Result<u8, Failure<'a>> {
-    let said = Said { counts, shadows };
     let mut text = Vec::new(alloc);
     rules.append(alloc, &mut text, said)?;
     print(out, text.as_slice())

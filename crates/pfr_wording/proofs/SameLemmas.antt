@@ -28,16 +28,16 @@ use Rattle.pfr_ruleset.specs.declared.flat.FlatAnchor.{FlatAnchor}
 use Rattle.pfr_ruleset.specs.declared.flat.FlatRule.{FlatRule}
 use Rattle.pfr_ruleset.specs.declared.flat.PacketMatch.{PacketMatch}
 use Rattle.pfr_ruleset.specs.declared.hosts.HostCriterion.{HostCriterion}
-use Rattle.pfr_ruleset.specs.declared.icmp.IcmpMatch.{IcmpMatch}
+use Rattle.pfr_net.specs.declared.icmp_match.IcmpMatch.{IcmpMatch}
 use Rattle.pfr_ruleset.specs.declared.interface.InterfaceCriterion.{InterfaceCriterion}
-use Rattle.pfr_ruleset.specs.declared.port.PortMatch.{PortMatch}
+use Rattle.pfr_net.specs.declared.port_match.PortMatch.{PortMatch}
 use Rattle.pfr_ruleset.specs.contracts.flat.FlatAnchorPartialEq.TheImpl.{ghosts as anchor_ghosts}
 use Rattle.pfr_ruleset.specs.contracts.flat.FlatRulePartialEq.TheImpl.{ghosts as rule_ghosts}
 use Rattle.pfr_ruleset.specs.contracts.flat.PacketMatchPartialEq.TheImpl.{ghosts as packet_ghosts}
 use Rattle.pfr_ruleset.specs.contracts.hosts.HostCriterionPartialEq.TheImpl.{ghosts as host_ghosts}
-use Rattle.pfr_ruleset.specs.contracts.icmp.IcmpMatchPartialEq.TheImpl.{ghosts as icmp_ghosts}
+use Rattle.pfr_net.specs.contracts.icmp_match.IcmpMatchPartialEq.TheImpl.{ghosts as icmp_ghosts}
 use Rattle.pfr_ruleset.specs.contracts.interface.InterfaceCriterionPartialEq.TheImpl.{ghosts as interface_ghosts}
-use Rattle.pfr_ruleset.specs.contracts.port.PortMatchPartialEq.TheImpl.{ghosts as port_ghosts}
+use Rattle.pfr_net.specs.contracts.port_match.PortMatchPartialEq.TheImpl.{ghosts as port_ghosts}
 
 pub same_list : {A : Type 0} (eq : A → A → Bool) → ((x y : A) → eq x y ≡ true → x ≡ y)
     → (xs ys : List A) → pointwise eq xs ys ≡ true → xs ≡ ys

@@ -1,8 +1,6 @@
 //! The criteria of a rule, in words.
-use pfr_net::{Net, Protocol};
-use pfr_ruleset::{
-    Comparison, HostCriterion, HostSet, InterfaceCriterion, PacketMatch, PortMatch, RangeOperator,
-};
+use pfr_net::{Comparison, Net, PortMatch, Protocol, RangeOperator};
+use pfr_ruleset::{HostCriterion, HostSet, InterfaceCriterion, PacketMatch};
 use pfr_sync::letters;
 use pfr_texts::{append_address, append_number};
 use pfr_words::Bytes;

@@ -1,9 +1,7 @@
 //! Filter rules and anchors in words.
 use crate::criteria::Wording;
-use pfr_net::Direction;
-use pfr_ruleset::{
-    FilterAction, FlagSet, FlagsCriterion, FlatAnchor, FlatRule, IcmpMatch, StatePolicy, StateRule,
-};
+use pfr_net::{Direction, FlagSet, IcmpMatch, StatePolicy};
+use pfr_ruleset::{FilterAction, FlagsCriterion, FlatAnchor, FlatRule, StateRule};
 use pfr_texts::append_number;
 use std::alloc::AllocError;
 

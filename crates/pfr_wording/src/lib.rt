@@ -8,6 +8,7 @@
 #![tactic(auto)]
 
 mod again;
+mod counts;
 mod criteria;
 mod filter;
 mod logged;
@@ -17,7 +18,8 @@ mod told;
 mod translation;
 mod worded;
 
+pub use counts::{Counted, RuleCounts};
 pub use filter::append_letters;
 pub use names::table_names;
-pub use told::{RuleTold, Rules, RulesTold, Said, Untold};
+pub use told::{RuleTold, Rules, RulesTold, Said, Untold, counted_at, shadow_at};
 pub use worded::{Worded, in_words};

@@ -1,10 +1,10 @@
 //! Rules as they are told: by their words, and by the lines of their file.
 use crate::again::translation_lines;
+use crate::counts::{Counted, RuleCounts};
 use crate::logged::logged_lines;
 use crate::names::table_names;
 use crate::worded::{Worded, in_words};
 use pfr_conf::{ConfError, ConfErrorKind};
-use pfr_listing::{Counted, RuleCounts};
 use pfr_prepare::Prepared;
 use pfr_ruleset::Ruleset;
 use pfr_shadows::Shadow;
@@ -14,12 +14,41 @@ use std::alloc::{AllocError, Global};
 /// A rule as it is told.
 #[derive(Clone, Copy)]
 pub struct RuleTold<'a> {
-    /// Its words. Two rules with the same words are the same rule, wherever they stand.
+    /// Its words.
     pub words: &'a [u8],
+    /// Its words without its label. Two rules of one ruleset in which these are the same do the same, wherever they
+    /// stand.
+    pub unlabelled: &'a [u8],
     /// The line of the ruleset's file on which it stands, from 1.
     pub line: usize,
     /// Whether it says `log`. This is false for translation rules.
     pub is_logged: bool,
+}
+
+impl<'a> RuleTold<'a> {
+    /// The first of its words that isn't `no`: of a translation rule `nat`, `rdr` or `binat`.
+    pub fn kind(&self) -> &'a [u8] {
+        first_word(
+            self.words
+                .strip_prefix(b"no ".as_slice())
+                .unwrap_or(self.words),
+        )
+    }
+
+    /// Appends its words as they are printed: a blank stands where they go on with the next line.
+    pub fn append(&self, text: &mut Vec<u8>) -> Result<(), AllocError> {
+        append_words(text, self.words)
+    }
+}
+
+/// The first of some words.
+fn first_word(words: &[u8]) -> &[u8] {
+    for (place, byte) in words.iter().enumerate() {
+        if *byte == b' ' {
+            return &words[..place];
+        }
+    }
+    words
 }
 
 /// The rules of a ruleset as they are told, by their numbers.
@@ -27,6 +56,10 @@ pub struct RuleTold<'a> {
 pub struct RulesTold<'a> {
     pub filter: Vec<RuleTold<'a>>,
     pub translations: Vec<RuleTold<'a>>,
+    /// The tables of the text, each as it is defined without entries, in their order.
+    pub tables: Vec<&'a [u8]>,
+    /// The anchors round filter rules, each up to its bracket, in their order.
+    pub anchors: Vec<&'a [u8]>,
 }
 
 /// The rules that a ruleset's file makes.
@@ -39,6 +72,8 @@ pub struct Rules {
     translations: Vec<usize>,
     /// Whether filter rules say `log`, by their numbers.
     logged: Vec<bool>,
+    /// How long the labels of filter rules are in words, by their numbers.
+    labels: Vec<usize>,
     /// How many lines of the words define tables.
     tables: usize,
 }
@@ -92,6 +127,19 @@ fn logged_rules(
         logged.push(lines.get(rule.line).copied().unwrap_or(false))?;
     }
     Ok(logged)
+}
+
+/// How long the labels of the filter rules of a ruleset are in words, with the blank before them.
+fn label_lengths(alloc: Global, ruleset: &Ruleset) -> Result<Vec<usize>, AllocError> {
+    let mut lengths = Vec::new(alloc);
+    for rule in ruleset.filter.rules() {
+        let length = match ruleset.label_of(rule) {
+            Some(label) => label.len().saturating_add(b" label \"\"".len()),
+            None => 0,
+        };
+        lengths.push(length)?;
+    }
+    Ok(lengths)
 }
 
 /// The lines of the file for lines of the text that was made of it.
@@ -154,28 +202,53 @@ fn without_blanks(line: &[u8]) -> &[u8] {
     line
 }
 
-/// The rules on the lines `places` of the words and the lines `lines` of the file, and whether they say `log`.
+/// The rules on the lines `places` of the words and the lines `lines` of the file, whether they say `log`, and how long
+/// their labels are.
 fn told_at<'a>(
     alloc: Global,
     words: &[&'a [u8]],
     places: &[usize],
     lines: &[usize],
     logged: &[bool],
+    labels: &[usize],
 ) -> Result<Vec<RuleTold<'a>>, AllocError> {
     let mut rules = Vec::new(alloc);
     for (place, line) in places.iter().zip(lines) {
         let is_logged = logged.get(rules.len()).copied().unwrap_or(false);
+        let label = labels.get(rules.len()).copied().unwrap_or(0);
         let words = match words.get(place.saturating_sub(1)) {
             Some(words) => without_blanks(words),
             None => &[],
         };
         rules.push(RuleTold {
             words,
+            unlabelled: words
+                .get(..words.len().saturating_sub(label))
+                .unwrap_or(words),
             line: *line,
             is_logged,
         })?;
     }
     Ok(rules)
+}
+
+/// The tables and the anchors among the lines of words, whose first lines define `count` tables.
+fn tables_and_anchors<'a>(
+    alloc: Global,
+    words: &[&'a [u8]],
+    count: usize,
+) -> Result<(Vec<&'a [u8]>, Vec<&'a [u8]>), AllocError> {
+    let mut tables = Vec::new(alloc);
+    let mut anchors = Vec::new(alloc);
+    for (place, line) in words.iter().enumerate() {
+        let line = without_blanks(line);
+        if place < count {
+            tables.push(line)?;
+        } else if line.starts_with(b"anchor") {
+            anchors.push(line)?;
+        }
+    }
+    Ok((tables, anchors))
 }
 
 /// Whether the rule with a number stands on a line of the words.
@@ -267,12 +340,12 @@ fn append_rule(
 }
 
 /// What a run counted of the rule with a number, if that is given.
-fn counted_at(counts: Option<&[Counted]>, number: usize) -> Option<&Counted> {
+pub fn counted_at(counts: Option<&[Counted]>, number: usize) -> Option<&Counted> {
     counts?.get(number)
 }
 
 /// The number of the rule that shadows rule `number`, if `number` is the first one of `shadows`, which is then passed.
-fn shadow_at(shadows: &mut &[Shadow], number: usize) -> Option<usize> {
+pub fn shadow_at(shadows: &mut &[Shadow], number: usize) -> Option<usize> {
     let (shadow, behind) = shadows.split_first()?;
     if shadow.rule != number {
         return None;
@@ -287,6 +360,7 @@ struct FileLines {
     filter: Vec<usize>,
     translations: Vec<usize>,
     logged: Vec<bool>,
+    labels: Vec<usize>,
 }
 
 /// What the file says of the rules of a ruleset that this text means.
@@ -295,10 +369,12 @@ fn file_lines(alloc: Global, text: &Prepared, ruleset: &Ruleset) -> Result<FileL
     lines_in_file(text, &mut translations);
     let filter = filter_lines(alloc, text, ruleset)?;
     let logged = logged_rules(alloc, text, ruleset)?;
+    let labels = label_lengths(alloc, ruleset)?;
     Ok(FileLines {
         filter,
         translations,
         logged,
+        labels,
     })
 }
 
@@ -314,6 +390,7 @@ fn with_lines(
             filter: lines.filter,
             translations: lines.translations,
             logged: lines.logged,
+            labels: lines.labels,
             tables,
         }),
         Err(_) => Err(Untold::Memory),
@@ -357,6 +434,7 @@ impl Rules {
             self.worded.filter.as_slice(),
             self.filter.as_slice(),
             self.logged.as_slice(),
+            self.labels.as_slice(),
         )?;
         let translations = told_at(
             alloc,
@@ -364,10 +442,14 @@ impl Rules {
             self.worded.translations.as_slice(),
             self.translations.as_slice(),
             &[],
+            &[],
         )?;
+        let (tables, anchors) = tables_and_anchors(alloc, words.as_slice(), self.tables)?;
         Ok(RulesTold {
             filter,
             translations,
+            tables,
+            anchors,
         })
     }
 

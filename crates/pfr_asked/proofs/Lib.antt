@@ -1,0 +1,5 @@
+pub mod DeciderLemmas
+pub mod LetsLemmas
+pub mod RunLemmas
+pub mod SeenLemmas
+pub mod StepLemmas

@@ -1,0 +1,4 @@
+pub mod Asking
+pub mod Laws
+pub mod Runs
+pub mod Seen
