@@ -4,6 +4,7 @@ The files stand in the folder of a comparison, in which the program is run. So w
 """
 
 from changes.model import NAMES
+from changes.printed import TEXT
 from runs.comparison import flags_of
 from runs.model import NONE, UNTOUCHED
 
@@ -35,8 +36,9 @@ def adapting(surroundings):
 def flags(comparison, question, others=None):
     """All flags of a question, maybe with other names for the captures of its other interfaces."""
     captures = others or [capture.name for capture in comparison.other_captures]
+    printing = [] if question.form == TEXT else ["--format", question.form]
     return [*flags_of(question.case, UNTOUCHED), *also_of(question, captures), *["--verdicts"] * question.by_verdict,
-            *adapting(question.surroundings)]
+            *["--quiet"] * question.is_quiet, *printing, *adapting(question.surroundings)]
 
 
 def asked(comparison, question, capture=CAPTURE, names=NAMES, others=None, **how):

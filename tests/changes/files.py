@@ -8,6 +8,7 @@ from threading import Thread
 from captures.packets import record, udp
 from changes.asking import asked, flags, lay_out
 from changes.model import NAMES, REFUSED, modelled
+from changes.printed import JSON
 from changes.row import CAME, FLOW_CAME, TRAFFIC, capture_of, question_of, text_of
 from changes.rows_runs import several
 from runs.comparison import a_line
@@ -24,6 +25,8 @@ SAME = question_of(OPEN, OPEN, capture_of(TRAFFIC))
 BROKEN = question_of(OPEN, BAD, capture_of(TRAFFIC))
 CUT = CHANGING._replace(case=CHANGING.case._replace(capture=CHANGING.case.capture[:-1]))
 TOO_LONG = CHANGING._replace(case=CHANGING.case._replace(capture=CHANGING.case.capture + record(1, 0, b"", 262145)))
+# of which the new ruleset names another interface alone
+WARNED = question_of(OPEN, f"{CLOSED} on em1\n{OPEN}", capture_of(TRAFFIC), is_quiet=False)
 TWO = several("", OPEN, f"{OPEN}\nblock on em1",
               [capture_of([(1, ASKED)]), capture_of([(2, ASKED), (3, CAME)])]).question
 # flows whose lines are written in several pieces
@@ -73,9 +76,19 @@ def in_order(comparison):
             continue
         question, capture, names = spoilt(things)
         lay_out(comparison, question)
-        words = ["diff", capture, *names, *flags(comparison, question), *["--quiet"] * ("words" in things)]
+        words = ["diff", capture, *names, *flags(comparison, question), *["--count"] * ("words" in things)]
         seen = comparison.execute(words, home=comparison.folder)
         comparison.expect(f"spoilt: {', '.join(sorted(things))}", told_first(things, seen, names), seen)
+
+
+def without_warnings(comparison):
+    """Where warnings aren't left out, files that can't be opened or read are told alone."""
+    lay_out(comparison, WARNED)
+    for capture, names, expected in ((NOWHERE, NAMES, cannot_open(NOWHERE)),
+                                     ("capture", (NOWHERE, "new"), cannot_open(NOWHERE)),
+                                     ("capture", ("old", NOWHERE), cannot_open(NOWHERE)), (".", NAMES, UNREAD)):
+        comparison.expect(f"warnings and {capture}, {names}", expected,
+                          asked(comparison, WARNED, capture, names=names))
 
 
 # Files of other kinds and names
@@ -131,7 +144,8 @@ def included(comparison):
     words = ["diff", "capture", *NAMES, *flags(comparison, question), "--adapt", "--include", "more=more"]
     seen = comparison.execute(words, home=comparison.folder)
     pair = "block L2 -> pass L1"
-    lines = text_of(f"{FLOW_CAME}  {pair}  1 packet, first 1", f"{pair}: 1 packet in 1 flow", "1 of 1 packet change")
+    lines = text_of(f"{FLOW_CAME}  {pair}  1 packet, first 1", f"{pair}: 1 packet in 1 flow",
+                    "1 of 1 packet change: 1 cause")
     comparison.expect("a file that is included", (lines, 1, True),
                       seen and (seen.out, seen.status, seen.err.startswith(b"old:2:1: note: include: ")))
 
@@ -194,7 +208,9 @@ def in_pieces(comparison):
 
 def outputs(comparison):
     """A full disk in the place of standard output, and a pipe that nobody reads."""
-    for name, question in (("changes", CHANGING), ("no change", SAME), ("many flows", MANY), ("a refusal", BROKEN)):
+    for name, question in (("changes", CHANGING), ("no change", SAME), ("many flows", MANY), ("a refusal", BROKEN),
+                           ("JSON of no change", SAME._replace(form=JSON)),
+                           ("JSON of many flows", MANY._replace(form=JSON))):
         lay_out(comparison, question)
         answer = modelled(question)
         comparison.expect(f"{name}, printed", answer, asked(comparison, question))
@@ -205,7 +221,18 @@ def outputs(comparison):
             comparison.expect(f"{name} that nobody reads", expected, asked(comparison, question, out=gone))
 
 
+def warned_outputs(comparison):
+    """Warnings come before an answer, so they are told before a write that fails. They may fail to be told as well."""
+    lay_out(comparison, WARNED)
+    answer = modelled(WARNED)
+    comparison.expect("warnings, printed", answer, asked(comparison, WARNED))
+    with open("/dev/full", "wb") as full:
+        comparison.expect("warnings, and an answer to a full disk",
+                          UNWRITTEN._replace(err=answer.err + UNWRITTEN.err), asked(comparison, WARNED, out=full))
+        comparison.expect("warnings to a full disk", answer._replace(err=b""), asked(comparison, WARNED, err=full))
+
+
 def compare(comparison):
-    for part in (in_order, odd_files, of_two, rulesets_by_a_sign, included, from_standard_input, odd_standard_inputs,
-                 in_pieces, outputs):
+    for part in (in_order, without_warnings, odd_files, of_two, rulesets_by_a_sign, included, from_standard_input,
+                 odd_standard_inputs, in_pieces, outputs, warned_outputs):
         part(comparison)

@@ -8,6 +8,7 @@ docs/FORMATS.md, section "What another ruleset changes".
 - The interface is told if the run has several.
 """
 
+import os
 from typing import NamedTuple
 
 from captures import merging
@@ -21,9 +22,15 @@ WITHOUT_ENDS = {"skip": "not-ip", "short": "short"}
 
 
 class Flow(NamedTuple):
-    """What the packets of a flow have in common, and the words for the flow as one of them has it."""
+    """What the packets of a flow have in common, and the words for the flow as one of them has it. The protocol's
+    number and both ends, each an address and a port, are those of this packet, and None if it shows none. The name is
+    that of its interface."""
     key: tuple
     words: str
+    protocol: int | None = None
+    source: tuple | None = None
+    destination: tuple | None = None
+    name: str = ""
 
 
 def end_words(address, port):
@@ -35,10 +42,16 @@ def flow_of(seen, mark):
     if seen in WITHOUT_ENDS:
         words = WITHOUT_ENDS[seen] + mark
         return Flow((words,), words)
-    source_port, destination_port = seen.ports or (None, None)
-    source, destination = end_words(seen.source, source_port), end_words(seen.destination, destination_port)
+    source, destination = ends = tuple(zip((seen.source, seen.destination), seen.ports or (None, None)))
+    words = [end_words(*end) for end in ends]
     protocol = PROTOCOLS.get(seen.protocol, str(seen.protocol))
-    return Flow((protocol, frozenset((source, destination)), mark), f"{protocol} {source} > {destination}{mark}")
+    return Flow((protocol, frozenset(words), mark), f"{protocol} {' > '.join(words)}{mark}", seen.protocol, source,
+                destination)
+
+
+def names_of(case):
+    """The names of the interfaces, by their places. Each byte of a name is a character."""
+    return [os.fsencode(name).decode("latin-1") for name, _ in case.interfaces()]
 
 
 def flows_of(captures, names):
@@ -47,4 +60,4 @@ def flows_of(captures, names):
     links = [read_header(capture).link for capture in captures]
     marks = [f" on {name}" if len(names) > 1 else "" for name in names]
     for place, record in merging.merged(list(map(merging.source_of, captures))).records:
-        yield flow_of(view(links[place], record.frame), marks[place])
+        yield flow_of(view(links[place], record.frame), marks[place])._replace(name=names[place])

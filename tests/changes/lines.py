@@ -1,5 +1,6 @@
 """Command lines of the command `diff` that fit and that don't. `capture`, `old` and `new` stand for its files."""
 
+from changes.printed import JSON, TEXT
 from runs import lines
 from runs.case import NO_SEED, Line
 from runs.check_cases import BAD_ADDRESSES, BAD_INTERFACES
@@ -8,21 +9,24 @@ from runs.lines import MAC, NETWORKS_TWICE, REFUSED_PARTS, SEED, mac, spelled
 FILES = ("capture", "old", "new")
 FLAGS = {"--interface": "em0", "--address": "192.0.2.1/24", "--inside": "10.0.0.0/8"}
 # those that may be missing
-SEED_FLAG, TAP_FLAG, VERDICTS = ("--seed", SEED), ("--tap", "wire"), "--verdicts"
-FORMS = {**lines.FORMS, "--also": "NAME,A.B.C.D/BITS,CAPTURE"}
+SEED_FLAG, TAP_FLAG, FORMAT_FLAG = ("--seed", SEED), ("--tap", "wire"), ("--format", JSON)
+VERDICTS, QUIET = "--verdicts", "--quiet"
+FORMS = {**lines.FORMS, "--also": "NAME,A.B.C.D/BITS,CAPTURE", "--format": "text|json"}
 # what the help shows, among other things
-HELPED = (b"<CAPTURE>", b"<OLD>", b"<NEW>", b"--verdicts",
-          *(f"{flag} <{FORMS[flag]}>".encode() for flag in (*FLAGS, "--seed", "--tap", "--mac", "--also")))
+HELPED = (b"<CAPTURE>", b"<OLD>", b"<NEW>", b"--verdicts", b"--quiet",
+          *(f"{flag} <{FORMS[flag]}>".encode() for flag in (*FLAGS, "--seed", "--tap", "--mac", "--also", "--format")))
 # values of --also that aren't of its form, each with the part that is wrong; with other than three parts the whole is
 BAD_ALSO = {**{value: value for value in ("", ",", "em1", "em1,203.0.113.2/24", ",,,", "em1,203.0.113.2/24,missing,",
                                           "em1,203.0.113.2/24,missing,more", "em1;203.0.113.2/24;missing")},
             **{f"{name},203.0.113.2/24,missing": name for name in BAD_INTERFACES},
             **{f"em1,{address},missing": address for address in BAD_ADDRESSES}}
-BAD_VALUES = {flag: lines.BAD_VALUES[flag] for flag in (*FLAGS, "--seed", "--tap", "--mac")}
+BAD_VALUES = {**{flag: lines.BAD_VALUES[flag] for flag in (*FLAGS, "--seed", "--tap", "--mac")},
+              "--format": ("", "Text", "JSON", "pflog", "xml", "x", "text,json", "text|json", "json ", " json", "j")}
 # flags of other commands, and of none
 UNKNOWN = ("--packets=packets", "--counters=counters", "--states=states", "--messages=messages", "--peer=127.0.0.1:9",
-           "--batch=7", "--workers=0", "--warn", "--json", "--quiet", "--verdict", "--VERDICTS", "--verdicts=verdicts",
-           "--verdicts=", "--old=old", "--new=new", "-v", "-x")
+           "--batch=7", "--workers=0", "--warn", "--json", "--text", "--count", "--quite", "--QUIET", "--quiet=yes",
+           "--quiet=", "--verdict", "--VERDICTS", "--verdicts=verdicts", "--verdicts=", "--old=old", "--new=new", "-q",
+           "-v", "-x")
 
 
 def diff_line(flags, *more):
@@ -46,7 +50,7 @@ def missing_words():
         others = {name: value for name, value in FLAGS.items() if name != flag}
         yield Line(diff_line(others))
         yield Line(diff_line(others, flag))
-    for flag in ("--seed", "--also", "--tap", "--mac"):
+    for flag in ("--seed", "--also", "--tap", "--mac", "--format"):
         yield Line(diff_line(FLAGS, flag))
     for count in range(len(FILES)):
         yield Line(("diff", *FILES[:count], *spelled(FLAGS)))
@@ -55,12 +59,14 @@ def missing_words():
 
 
 def surplus_words():
-    for flag, value in (*FLAGS.items(), SEED_FLAG, TAP_FLAG):
+    for flag, value in (*FLAGS.items(), SEED_FLAG, TAP_FLAG, FORMAT_FLAG):
         said = (f"the argument '{flag} <{FORMS[flag]}>' cannot be used multiple times".encode(),)
         yield Line(diff_line({**FLAGS, flag: value}, flag, value), said)
         yield Line(diff_line({**FLAGS, flag: value}, f"{flag}={value}"), said)
-    yield Line(diff_line(FLAGS, VERDICTS, VERDICTS), (b"'--verdicts' cannot be used multiple times",))
-    for words in (("more",), (VERDICTS, "verdicts"), ("old",), ("--packets", "packets"), ("--batch", "7")):
+    for word in (VERDICTS, QUIET):
+        yield Line(diff_line(FLAGS, word, word), (f"'{word}' cannot be used multiple times".encode(),))
+    for words in (("more",), (VERDICTS, "verdicts"), (QUIET, "yes"), ("old",), ("--packets", "packets"),
+                  ("--batch", "7"), (JSON,)):
         yield Line(diff_line(FLAGS, *words))
     for word in UNKNOWN:
         yield Line(diff_line(FLAGS, word))
@@ -110,23 +116,30 @@ def bad():
 
 
 def good():
-    """Lines that fit: the words, whether verdicts alone count, and the settings of the case."""
-    flags = spelled(FLAGS)
+    """Lines that fit: the words, what is asked besides the case, and the settings of the case. Warnings are said unless
+    that is asked for."""
+    flags, by_verdict = spelled(FLAGS), {"by_verdict": True}
     capture, old, new = FILES
     for words in ((*flags, *FILES), (capture, *flags, old, new),
                   (capture, old, *spelled(dict(reversed(FLAGS.items()))), new),
                   (*FILES, *(f"{flag}={value}" for flag, value in FLAGS.items()))):
-        yield words, False, {}
-        yield (VERDICTS, *words), True, {}
-        yield (*words, VERDICTS), True, {}
-    yield (capture, VERDICTS, old, *flags, new), True, {}
-    yield (*flags, "--", *FILES), False, {}
+        yield words, {}, {}
+        yield (VERDICTS, *words), by_verdict, {}
+        yield (*words, VERDICTS), by_verdict, {}
+    yield (capture, VERDICTS, old, *flags, new), by_verdict, {}
+    yield (*flags, "--", *FILES), {}, {}
+    for words in ((*FILES, *flags, QUIET), (QUIET, *flags, *FILES), (capture, old, QUIET, new, *flags)):
+        yield words, {"is_quiet": True}, {}
+    yield (*FILES, QUIET, *flags, VERDICTS, "--format", JSON), {"is_quiet": True, "form": JSON, **by_verdict}, {}
+    for form in (TEXT, JSON):
+        yield (*FILES, *flags, "--format", form), {"form": form}, {}
+        yield (f"--format={form}", capture, VERDICTS, old, *flags, new), {"form": form, **by_verdict}, {}
     for seed in (NO_SEED, SEED, SEED.upper()):
-        yield (*FILES, *flags, "--seed", seed), False, {"seed": seed}
+        yield (*FILES, *flags, "--seed", seed), {}, {"seed": seed}
     for tap in ("stack", "wire"):
-        yield (*FILES, *flags, f"--tap={tap}"), False, {"tap": tap}
-        yield ("--tap", tap, *FILES, *flags, VERDICTS), True, {"tap": tap}
+        yield (*FILES, *flags, f"--tap={tap}"), {}, {"tap": tap}
+        yield ("--tap", tap, *FILES, *flags, VERDICTS), by_verdict, {"tap": tap}
     without = spelled({flag: value for flag, value in FLAGS.items() if flag != "--inside"})
-    yield (*FILES, *without, *mac("em0")), False, {"inside": None, "addresses": (("em0", MAC),)}
+    yield (*FILES, *without, *mac("em0")), {}, {"inside": None, "addresses": (("em0", MAC),)}
     for networks in ("10.0.0.0/8,!10.9.0.0/16", "!10.0.0.5,10.0.0.0/8", "010.0.0.5"):
-        yield (*FILES, *spelled({**FLAGS, "--inside": networks})), False, {"inside": networks}
+        yield (*FILES, *spelled({**FLAGS, "--inside": networks})), {}, {"inside": networks}

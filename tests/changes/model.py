@@ -3,47 +3,47 @@
 
 The runs replay the same captures, one by each ruleset. Their lines are joined packet by packet:
 
-- A packet changes if its verdict does, or if another rule is named for it, of the filter or of translation. Rules are
-  told apart by what they say. With `--verdicts` it changes if its verdict does, and else not.
-- A decision is the verdict, the reason if it is told, and where the rules stand.
-- The packets of a flow with the same two decisions have one line, in the order of their first packets. The words of a
-  flow are those of its first packet that changes. Then come the pairs of decisions, and then all packets.
+- It is told which packets change (`changes.decisions`), and which of them are causes (`changes.causes`): a line for
+  each cause, and one for each pair of decisions.
+- Packets that aren't judged, or not as the firewall would judge them, are counted (`changes.unjudged`). So are the
+  differences between the rulesets that no packet could have asked (`changes.untried`). If no packet changes, the status
+  depends on both.
+- All of this is printed as text or as JSON (`changes.printed`).
+- Before that it is said what may not fit, unless that is left out (`changes.warned`).
 
 What refuses a run refuses the command, with another status. Of the two rulesets the first one that is refused is told,
 before anything of a capture is.
 """
 
-import re
 from typing import NamedTuple
 
 from adapt.surroundings import Surroundings
-from changes import adapted
-from changes.flows import Flow, flows_of
-from changes.rules import Known, rules_of
-from expansions.hosts import interface_of
+from changes import adapted, unjudged, untried
+from changes.causes import cause_lines, pair_lines, traced
+from changes.decisions import changes_of
+from changes.printed import TEXT, All, printed
+from changes.warned import warned
 from runs import model as runs_model
 from runs.case import Case
 from runs.model import Outcome
 
-NOTHING_CHANGES, SOMETHING_CHANGES, REFUSED = 0, 1, 2
+NOTHING_CHANGES, SOMETHING_CHANGES, REFUSED, UNJUDGED = 0, 1, 2, 5
 # the statuses of a run that was refused, and of one whose capture is cut
 RUN_REFUSED, RUN_CUT = 1, 2
-# the reasons that a decision doesn't tell
-UNTOLD = ("rule", "state", "state-error", "nat-pass")
-LINE = re.compile(r"\d+ \d+ (?:in|out|-) (?P<verdict>[a-z]+) (?P<reason>[a-z-]+) r=(?P<rule>\d+|-) "
-                  r"t=(?P<translation>\d+|-) s=(?:\d+|-)(?: i=.+)?")
 OF_RULESET = b"pfreplay: rules "
 # the files of the rulesets, if no others are named
 NAMES = ("old", "new")
 
 
 class Question(NamedTuple):
-    """What the command is asked: the run by the old ruleset, the text of the new one, whether verdicts alone count, and
-    with what both texts are adapted, if they are."""
+    """What the command is asked: the run by the old ruleset, the text of the new one, whether verdicts alone count,
+    with what both texts are adapted, if they are, how the answer is printed, and whether warnings are left out."""
     case: Case
     new: bytes
     by_verdict: bool = False
     surroundings: Surroundings | None = None
+    form: str = TEXT
+    is_quiet: bool = True
 
     def read(self):
         """What is run of both files."""
@@ -62,105 +62,6 @@ class Question(NamedTuple):
         return [f"{name}:{line}".encode("latin-1") for name, each in zip(names, self.read()) for line in each.said]
 
 
-class Decision(NamedTuple):
-    """What a run says of a packet; a rule is None if none is named."""
-    verdict: str
-    reason: str
-    rule: Known | None
-    translation: Known | None
-
-    def words(self):
-        return " ".join([self.verdict, *self.reasons(), *(rule.place for rule in self.rules())])
-
-    def reasons(self):
-        """The reason, if it is told."""
-        return [] if self.reason in UNTOLD else [self.reason]
-
-    def rules(self):
-        return [rule for rule in (self.rule, self.translation) if rule]
-
-    def said(self):
-        """The reason, and what the rules say."""
-        return [self.reasons(), *(rule and rule.said for rule in (self.rule, self.translation))]
-
-
-class Change(NamedTuple):
-    """A packet that changes: its number, its flow and its two decisions in words."""
-    number: int
-    flow: Flow
-    pair: str
-
-
-# Decisions
-
-def rule_at(rules, number):
-    return None if number == "-" else rules[int(number)]
-
-
-def decision_in(line, rules):
-    found = LINE.fullmatch(line)
-    return Decision(found["verdict"], found["reason"], rule_at(rules.filter, found["rule"]),
-                    rule_at(rules.translation, found["translation"]))
-
-
-def decisions_in(outcome, read, interfaces):
-    """The decisions of a run's verdicts, one for each packet, by what was read of its ruleset."""
-    rules = rules_of(read, interfaces)
-    return [decision_in(line, rules) for line in outcome.files.verdicts.decode("latin-1").splitlines()]
-
-
-def is_change(old, new, by_verdict):
-    return old.verdict != new.verdict or not by_verdict and old.said() != new.said()
-
-
-def changes_of(question, old, new):
-    """The packets that change, by what both runs left."""
-    interfaces = tuple(interface_of(*each) for each in question.case.interfaces())
-    decisions = [decisions_in(outcome, read, interfaces) for outcome, read in zip((old, new), question.read())]
-    flows = flows_of(question.case.captures(), [each.name for each in interfaces])
-    for number, (flow, one, other) in enumerate(zip(flows, *decisions, strict=True), 1):
-        if is_change(one, other, question.by_verdict):
-            yield Change(number, flow, f"{one.words()} -> {other.words()}")
-
-
-# What is printed
-
-def counted(number, thing):
-    """A number of things; of one thing the word has no `s`."""
-    return f"{number} {thing}{'' if number == 1 else 's'}"
-
-
-def by_flow(changes):
-    """The changes by flow and pair of decisions, in the order of their first packets."""
-    found = {}
-    for each in changes:
-        found.setdefault((each.flow.key, each.pair), []).append(each)
-    return found
-
-
-def flow_lines(changes):
-    words = {}
-    for each in changes:
-        words.setdefault(each.flow.key, each.flow.words)
-    for (key, pair), packets in by_flow(changes).items():
-        yield f"{words[key]}  {pair}  {counted(len(packets), 'packet')}, first {packets[0].number}"
-
-
-def pair_lines(changes):
-    packets, flows = {}, {}
-    for (key, pair), found in by_flow(changes).items():
-        packets[pair] = packets.get(pair, 0) + len(found)
-        flows.setdefault(pair, set()).add(key)
-    for pair, count in packets.items():
-        yield f"{pair}: {counted(count, 'packet')} in {counted(len(flows[pair]), 'flow')}"
-
-
-def lines_of(changes, count, is_cut):
-    """All lines about a run of `count` packets."""
-    return [*flow_lines(changes), *pair_lines(changes),
-            f"{len(changes)} of {counted(count, 'packet')} change{', cut' if is_cut else ''}"]
-
-
 # The command
 
 def refusal(old, new, names):
@@ -171,16 +72,32 @@ def refusal(old, new, names):
     return Outcome(b"", old.err, REFUSED) if old.status == RUN_REFUSED else None
 
 
+def status_of(packets, kinds):
+    """The status, by what is told of all packets, and by the kinds of those that aren't judged."""
+    if packets.changed:
+        return SOMETHING_CHANGES
+    is_open = packets.differences or unjudged.leaves_open(kinds, packets.packets)
+    return UNJUDGED if is_open else NOTHING_CHANGES
+
+
+def lines_of(question, old, new, kinds, tried):
+    """All lines about two runs: the kinds of packets that aren't judged, and what no packet tried."""
+    found = traced(changes_of(question, old, new))
+    causes = cause_lines(found)
+    count = old.files.verdicts.count(b"\n")
+    return [*causes, *pair_lines(found), *tried.lines, unjudged.line_of(kinds),
+            All(len(found), count, len(causes), tried.count, old.status == RUN_CUT)]
+
+
 def answer(question, old, new, names=NAMES):
     """What the command leaves, by what the runs by both rulesets left. The names are those of the rulesets' files."""
     refused = refusal(old, new, names)
     if refused:
         return refused
-    changes = list(changes_of(question, old, new))
-    count = old.files.verdicts.count(b"\n")
-    lines = lines_of(changes, count, old.status == RUN_CUT)
-    text = "".join(f"{line}\n" for line in lines).encode("latin-1")
-    return Outcome(text, b"", SOMETHING_CHANGES if changes else NOTHING_CHANGES)
+    kinds, tried = unjudged.found(question.case.captures(), old, new), untried.untried(question, old, new)
+    lines = lines_of(question, old, new, kinds, tried)
+    said = b"" if question.is_quiet else warned(question.case, question.read()[1].text, new)
+    return Outcome(printed(question.form, lines), said, status_of(lines[-1], kinds))
 
 
 def modelled(question, names=NAMES):

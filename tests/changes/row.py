@@ -3,7 +3,8 @@
 from typing import NamedTuple
 
 from captures.packets import SYN, capture_header, record, tcp, udp
-from changes.model import NOTHING_CHANGES, REFUSED, SOMETHING_CHANGES, Question
+from changes.model import NOTHING_CHANGES, REFUSED, SOMETHING_CHANGES, UNJUDGED, Question
+from changes.printed import TEXT
 from matrix.scene import timed
 from runs.case import INSIDE, Case
 from runs.model import Outcome
@@ -25,19 +26,28 @@ def text_of(*lines):
 
 class Row(NamedTuple):
     """A question with the lines that are printed, or with what is said if it is refused. The names of the rulesets'
-    files stand there as `{old}` and `{new}`, and so they do in how the lines begin that say what was rewritten."""
+    files stand there as `{old}` and `{new}`, and so they do in how the lines begin that say what was rewritten. If no
+    packet changes, it is told whether that is for want of packets that are judged. Warnings are there if they aren't
+    left out."""
     name: str
     question: Question
     lines: tuple = ()
     said: str = ""
     remarks: tuple = ()
+    is_unjudged: bool = False
+    warnings: tuple = ()
 
     def outcome(self, names):
         """What is left if the rulesets' files have these names, but for what was rewritten."""
         if self.said:
             return Outcome(b"", f"pfreplay: {self.named(self.said, names)}\n".encode(), REFUSED)
-        status = NOTHING_CHANGES if self.lines[-1].startswith("0 of ") else SOMETHING_CHANGES
-        return Outcome(text_of(*self.lines), b"", status)
+        return Outcome(text_of(*self.lines), text_of(*(f"pfreplay: warning: {each}" for each in self.warnings)),
+                       self.status())
+
+    def status(self):
+        if not self.lines[-1].startswith(("0 of ", '{"kind":"all","changed":0,')):
+            return SOMETHING_CHANGES
+        return UNJUDGED if self.is_unjudged else NOTHING_CHANGES
 
     def told(self, names):
         """How the lines begin that say what was rewritten."""
@@ -55,9 +65,10 @@ def capture_of(records, **header):
     return capture_header(**header) + b"".join(parts)
 
 
-def question_of(old, new, capture, inside=INSIDE, by_verdict=False, surroundings=None, **settings):
+def question_of(old, new, capture, inside=INSIDE, by_verdict=False, surroundings=None, form=TEXT, is_quiet=True,
+                **settings):
     case = Case("", old.encode(), inside, capture, **settings)
-    return Question(case, new.encode(), by_verdict, surroundings)
+    return Question(case, new.encode(), by_verdict, surroundings, form, is_quiet)
 
 
 def row(name, old, new, packets, *lines, **how):
@@ -72,9 +83,31 @@ def counted(packets):
 def one_line(name, old, new, packets, flow, pair, number=1, **how):
     """A row in which one packet alone changes."""
     return row(name, old, new, packets, f"{flow}  {pair}  1 packet, first {number}", f"{pair}: 1 packet in 1 flow",
-               f"1 of {counted(packets)} change", **how)
+               f"1 of {counted(packets)} change: 1 cause", **how)
 
 
 def none(name, old, new, packets, **how):
     """A row in which nothing changes."""
     return row(name, old, new, packets, f"0 of {counted(packets)} change", **how)
+
+
+def unjudged(name, old, new, packets, *said, is_unjudged=True, **how):
+    """A row in which nothing changes, and that is told of packets that aren't judged."""
+    lines = (*(f"not judged: {each}" for each in said), f"0 of {counted(packets)} change")
+    return Row(name, question_of(old, new, capture_of(packets), **how), lines, is_unjudged=is_unjudged)
+
+
+def with_tried(row, tried):
+    """A row with the lines about what no packet tried. They stand before the one about packets that aren't judged."""
+    unasked = [line for line in tried if line.startswith("not judged")]
+    open_ends = sum(line.count(" of OLD") + line.count(" of NEW") or 1 for line in unasked)
+    *before, last = row.lines
+    kinds = [before.pop()] if before and before[-1].startswith("not judged: ") else []
+    told, *cut = last.split(", cut")
+    end = f"{told}, {counted_of(open_ends)} not judged" if open_ends else told
+    return row._replace(lines=(*before, *tried, *kinds, f"{end}{', cut' if cut else ''}"),
+                        is_unjudged=row.is_unjudged or open_ends > 0)
+
+
+def counted_of(differences):
+    return "1 difference" if differences == 1 else f"{differences} differences"

@@ -117,12 +117,12 @@ def adapted_rules():
     yield none("a rule that says the same once it is adapted", keeping.format("modulate state"),
                keeping.format("keep state"), [knock], surroundings=NOTHING)._replace(
                    remarks=("{old}:2:43: note: modulate",))
-    yield row("a statement that becomes two rules on a line each", 'antispoof quick for em0\npass in label "a"',
-              'pass in label "b"', [udp(E, 9, H, 9), CAME],
+    yield row("a statement that becomes two rules on a line each", 'antispoof quick for em0\npass in allow-opts',
+              'pass in', [udp(E, 9, H, 9), CAME],
               "udp 192.0.2.1:9 > 10.0.0.5:9  block L1 -> pass L1  1 packet, first 1",
               f"{FLOW_CAME}  pass L2 -> pass L1  1 packet, first 2",
               "block L1 -> pass L1: 1 packet in 1 flow", "pass L2 -> pass L1: 1 packet in 1 flow",
-              "2 of 2 packets change", surroundings=NOTHING)._replace(remarks=("{old}:1:1: note: antispoof",))
+              "2 of 2 packets change: 2 causes", surroundings=NOTHING)._replace(remarks=("{old}:1:1: note: antispoof",))
     given = Surroundings(interfaces=(("em1", "10.0.0.1/24"),))
     yield none("a word that surroundings give an address", "pass in from em1:network\npass in to 192.0.2.1",
                "pass in from 10.0.0.0/24\npass in to 192.0.2.1", [CAME], surroundings=given)._replace(

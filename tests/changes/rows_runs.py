@@ -6,7 +6,9 @@ Packets of em0 come first if they have the time of those of em1.
 from captures.packets import (ETHER_ARP, ETHER_IPV4, LINKTYPE_ETHERNET, LINKTYPE_LOOPBACK, NANOSECONDS, ethernet,
                               loopback, record, udp)
 from changes.model import Question
-from changes.row import CAME, FLOW_BACK, FLOW_CAME, FLOW_OUT, Row, capture_of, none, one_line, question_of, row
+from changes.printed import TEXT
+from changes.row import (CAME, FLOW_BACK, FLOW_CAME, FLOW_OUT, Row, capture_of, none, one_line, question_of, row,
+                         unjudged)
 from runs import interface_rows
 from runs.case import INSIDE
 from steps.model import WIRE
@@ -28,33 +30,36 @@ OWN_INSIDE = f"{INSIDE},{E}"
 
 # Several interfaces
 
-def several(name, old, new, captures, *lines, interfaces=TWO, by_verdict=False):
+def several(name, old, new, captures, *lines, interfaces=TWO, by_verdict=False, form=TEXT):
     """A row over the bytes of captures, one for each interface."""
     case = interface_rows.case_of("", old, captures, interfaces)
-    return Row(name, Question(case, new.encode(), by_verdict), lines)
+    return Row(name, Question(case, new.encode(), by_verdict, form=form), lines)
 
 
 def on_two_interfaces():
     captures = [capture_of([(1, ASKED), (3, ASKED)]), capture_of([(2, ASKED), (4, ANSWERED)])]
     yield several("a rule for the second interface", OPEN, f"{OPEN}\nblock on em1", captures,
-                  f"{FLOW_OUT} on em1  pass L1 -> block L2  2 packets, first 2",
-                  "pass L1 -> block L2: 2 packets in 1 flow", "2 of 4 packets change")
+                  f"{FLOW_OUT} on em1  pass L1 -> block L2  1 packet, first 2, 1 follows",
+                  "pass L1 -> block L2: 2 packets in 1 flow, 1 follows", "2 of 4 packets change: 1 cause")
     yield several("a rule for the first interface", OPEN, "block on em0\npass on !em0 no state", captures,
-                  f"{FLOW_OUT} on em0  pass L1 -> block L1  2 packets, first 1",
-                  f"{FLOW_OUT} on em1  pass L1 -> pass L2  2 packets, first 2", f"{PAIR}: 2 packets in 1 flow",
-                  "pass L1 -> pass L2: 2 packets in 1 flow", "4 of 4 packets change")
-    yield several("a flow on each interface", OPEN, CLOSED, captures, f"{FLOW_OUT} on em0  {PAIR}  2 packets, first 1",
-                  f"{FLOW_OUT} on em1  {PAIR}  2 packets, first 2", f"{PAIR}: 4 packets in 2 flows",
-                  "4 of 4 packets change")
+                  f"{FLOW_OUT} on em0  pass L1 -> block L1  1 packet, first 1, 1 follows",
+                  f"{FLOW_OUT} on em1  pass L1 -> pass L2  1 packet, first 2, 1 follows",
+                  f"{PAIR}: 2 packets in 1 flow, 1 follows", "pass L1 -> pass L2: 2 packets in 1 flow, 1 follows",
+                  "4 of 4 packets change: 2 causes")
+    yield several("a flow on each interface", OPEN, CLOSED, captures,
+                  f"{FLOW_OUT} on em0  {PAIR}  1 packet, first 1, 1 follows",
+                  f"{FLOW_OUT} on em1  {PAIR}  1 packet, first 2, 1 follows",
+                  f"{PAIR}: 4 packets in 2 flows, 2 follow", "4 of 4 packets change: 2 causes")
     yield several("nothing on two interfaces", "block in\npass out", "pass out\nblock in", captures,
                   "0 of 4 packets change")
     yield several("the second interface isn't filtered", CLOSED, f"set skip on em1\n{CLOSED}", captures,
-                  f"{FLOW_OUT} on em1  block L1 -> pass skip-on  2 packets, first 2",
-                  "block L1 -> pass skip-on: 2 packets in 1 flow", "2 of 4 packets change")
+                  f"{FLOW_OUT} on em1  block L1 -> pass skip-on  1 packet, first 2, 1 follows",
+                  "block L1 -> pass skip-on: 2 packets in 1 flow, 1 follows", "2 of 4 packets change: 1 cause")
     yield several("one of two captures has no packet", OPEN, CLOSED, [capture_of([]), capture_of([ASKED])],
                   f"{FLOW_OUT} on em1  {PAIR}  1 packet, first 1", f"{PAIR}: 1 packet in 1 flow",
-                  "1 of 1 packet change")
-    yield several("two empty captures", OPEN, CLOSED, [capture_of([])] * 2, "0 of 0 packets change")
+                  "1 of 1 packet change: 1 cause")
+    yield several("two empty captures", OPEN, CLOSED, [capture_of([])] * 2,
+                  "0 of 0 packets change")._replace(is_unjudged=True)
 
 
 def states_on_two_interfaces():
@@ -62,19 +67,19 @@ def states_on_two_interfaces():
     captures = [capture_of([(0, ASKED)]), capture_of([(0, ANSWERED)])]
     by_state = "block in\npass out on em0"
     yield several("a state that is bound now", by_state, BOUND + by_state, captures,
-                  f"{FLOW_OUT} on em0  pass L2 -> pass L3  1 packet, first 1",
-                  f"{FLOW_BACK} on em1  pass L2 -> block L2  1 packet, first 2",
-                  "pass L2 -> pass L3: 1 packet in 1 flow", "pass L2 -> block L2: 1 packet in 1 flow",
-                  "2 of 2 packets change")
+                  f"{FLOW_OUT} on em0  pass L2 -> pass L3  1 packet, first 1, 1 follows",
+                  "pass L2 -> pass L3: 1 packet in 1 flow", "pass L2 -> block L2: 1 packet in 1 flow, 1 follows",
+                  "2 of 2 packets change: 1 cause")
     yield several("a state that is bound now, by the verdict", by_state, BOUND + by_state, captures,
                   f"{FLOW_BACK} on em1  pass L2 -> block L2  1 packet, first 2",
-                  "pass L2 -> block L2: 1 packet in 1 flow", "1 of 2 packets change", by_verdict=True)
+                  "pass L2 -> block L2: 1 packet in 1 flow", "1 of 2 packets change: 1 cause", by_verdict=True)
     yield several("a rule for its interface, and a state that was made on the other one",
                   "pass out on em0\npass out on em1 no state", "pass out on em0 no state\npass out on em1 no state",
                   [capture_of([ASKED])] * 2,
-                  f"{FLOW_OUT} on em0  pass L1 -> pass L1  1 packet, first 1",
-                  f"{FLOW_OUT} on em1  pass L1 -> pass L2  1 packet, first 2", "pass L1 -> pass L1: 1 packet in 1 flow",
-                  "pass L1 -> pass L2: 1 packet in 1 flow", "2 of 2 packets change")
+                  # the same ends on the other interface are another flow, which follows by the state
+                  f"{FLOW_OUT} on em0  pass L1 -> pass L1  1 packet, first 1, 1 follows",
+                  "pass L1 -> pass L1: 1 packet in 1 flow", "pass L1 -> pass L2: 1 packet in 1 flow, 1 follows",
+                  "2 of 2 packets change: 1 cause")
 
 
 def on_more_interfaces():
@@ -83,20 +88,20 @@ def on_more_interfaces():
                   f"{FLOW_OUT} on em2  pass L1 -> block L2  1 packet, first 2",
                   f"{FLOW_OUT} on em0  pass L1 -> block L3  1 packet, first 3",
                   "pass L1 -> block L2: 1 packet in 1 flow", "pass L1 -> block L3: 1 packet in 1 flow",
-                  "2 of 3 packets change", interfaces=THREE)
+                  "2 of 3 packets change: 2 causes", interfaces=THREE)
     links = [capture_of([loopback(ASKED)], network=LINKTYPE_LOOPBACK),
              capture_of([ethernet(ETHER_IPV4, ASKED)], network=LINKTYPE_ETHERNET),
              capture_of([ASKED], order=">", magic=NANOSECONDS)]
     yield several("three interfaces of all link types", OPEN, CLOSED, links,
                   *(f"{FLOW_OUT} on em{place}  {PAIR}  1 packet, first {place + 1}" for place in range(3)),
-                  f"{PAIR}: 3 packets in 3 flows", "3 of 3 packets change", interfaces=THREE)
+                  f"{PAIR}: 3 packets in 3 flows", "3 of 3 packets change: 3 causes", interfaces=THREE)
     own = "pass in to {} no state"
     to_em1 = [capture_of([udp(P, 9, "203.0.113.2", 9)]), capture_of([CAME])]
     yield several("the addresses of all interfaces", own.format("self"), own.format("em0"), to_em1,
                   "udp 198.51.100.7:9 > 203.0.113.2:9 on em0  pass L1 -> pass default  1 packet, first 1",
                   f"{FLOW_CAME} on em1  pass L1 -> pass L1  1 packet, first 2",
                   "pass L1 -> pass default: 1 packet in 1 flow", "pass L1 -> pass L1: 1 packet in 1 flow",
-                  "2 of 2 packets change")
+                  "2 of 2 packets change: 2 causes")
     yield several("an address of each interface", own.format("{ em0, em1 }"), own.format("{ em1, em0 }"), to_em1,
                   "0 of 2 packets change")
 
@@ -108,17 +113,18 @@ def captures():
     for order, magic in (("<", NANOSECONDS), (">", NANOSECONDS)):
         yield Row(f"a capture of nanoseconds, {order}",
                   question_of(OPEN, CLOSED, capture_of(frames, order=order, magic=magic)),
-                  (f"{FLOW_OUT}  {PAIR}  2 packets, first 1", f"{FLOW_CAME}  {PAIR}  1 packet, first 2",
-                   f"{PAIR}: 3 packets in 2 flows", "3 of 3 packets change"))
-    yield none("an empty capture", OPEN, CLOSED, [])
-    yield none("an empty capture and no rule", "", "", [])
+                  (f"{FLOW_OUT}  {PAIR}  1 packet, first 1, 1 follows", f"{FLOW_CAME}  {PAIR}  1 packet, first 2",
+                   f"{PAIR}: 3 packets in 2 flows, 1 follows", "3 of 3 packets change: 2 causes"))
+    yield unjudged("an empty capture", OPEN, CLOSED, [])
+    yield unjudged("an empty capture and no rule", "", "", [])
     framed = capture_of([loopback(ASKED), loopback(ASKED, 30), loopback(ANSWERED)], network=LINKTYPE_LOOPBACK)
     yield Row("a capture of BSD loopback", question_of(OPEN, CLOSED, framed),
-              (f"{FLOW_OUT}  {PAIR}  2 packets, first 1", f"{PAIR}: 2 packets in 1 flow", "2 of 3 packets change"))
+              (f"{FLOW_OUT}  {PAIR}  1 packet, first 1, 1 follows", f"{PAIR}: 2 packets in 1 flow, 1 follows",
+               "not judged: 1 IPv6", "2 of 3 packets change: 1 cause"))
     many = capture_of([CAME] * 1000 + [ASKED] * 1000)
     yield Row("many packets", question_of("pass in no state\npass out", "block in\npass out", many),
-              (f"{FLOW_CAME}  {PAIR}  1000 packets, first 1", f"{PAIR}: 1000 packets in 1 flow",
-               "1000 of 2000 packets change"))
+              (f"{FLOW_CAME}  {PAIR}  1 packet, first 1, 999 follow",
+               f"{PAIR}: 1000 packets in 1 flow, 999 follow", "1000 of 2000 packets change: 1 cause"))
 
 
 def cut_captures():
@@ -129,13 +135,13 @@ def cut_captures():
         yield Row(f"a capture that is cut behind {length} bytes of a record",
                   question_of(OPEN, "pass out no state", cut),
                   (f"{FLOW_OUT}  pass L1 -> pass L1  1 packet, first 1", "pass L1 -> pass L1: 1 packet in 1 flow",
-                   "1 of 1 packet change, cut"))
+                   "1 of 1 packet change: 1 cause, cut"))
     yield Row("a capture that is cut, and nothing changes", question_of(OPEN, OPEN, whole[:-1]),
-              ("0 of 0 packets change, cut",))
+              ("0 of 0 packets change, cut",), is_unjudged=True)
     yield several("the second capture is cut", OPEN, f"{OPEN}\nblock on em1",
                   [capture_of([(1, ASKED), (3, ASKED)]), capture_of([(2, ASKED), (2, ASKED)])[:-1]],
                   f"{FLOW_OUT} on em1  pass L1 -> block L2  1 packet, first 2",
-                  "pass L1 -> block L2: 1 packet in 1 flow", "1 of 3 packets change, cut")
+                  "pass L1 -> block L2: 1 packet in 1 flow", "1 of 3 packets change: 1 cause, cut")
 
 
 # Settings
@@ -149,15 +155,15 @@ def on_the_wire():
     rules = f"{RDR}\npass in\nblock out"
     yield row("a redirected connection on the wire", rules, "pass in\nblock out",
               [ASKED_OF_SERVER, REPLY, REPLY_AT_STACK],
-              "udp 198.51.100.7:9 > 192.0.2.1:53  pass L2 rdr L1 -> pass L1  2 packets, first 1",
-              "pass L2 rdr L1 -> pass L1: 2 packets in 1 flow", "2 of 3 packets change", tap=WIRE, inside=OWN_INSIDE)
+              "udp 198.51.100.7:9 > 192.0.2.1:53  pass L2 rdr L1 -> pass L1  1 packet, first 1, 1 follows",
+              "pass L2 rdr L1 -> pass L1: 2 packets in 1 flow, 1 follows", "2 of 3 packets change: 1 cause", tap=WIRE,
+              inside=OWN_INSIDE)
     yield row("a redirected connection at the stack", rules, "pass in\nblock out",
               [ASKED_OF_SERVER, REPLY, REPLY_AT_STACK],
-              "udp 198.51.100.7:9 > 192.0.2.1:53  pass L2 rdr L1 -> pass L1  1 packet, first 1",
-              "udp 198.51.100.7:9 > 192.0.2.1:53  block L3 -> pass L1  1 packet, first 2",
-              "udp 10.0.0.1:5353 > 198.51.100.7:9  pass L2 rdr L1 -> block L2  1 packet, first 3",
-              "pass L2 rdr L1 -> pass L1: 1 packet in 1 flow", "block L3 -> pass L1: 1 packet in 1 flow",
-              "pass L2 rdr L1 -> block L2: 1 packet in 1 flow", "3 of 3 packets change", tap="stack", inside=OWN_INSIDE)
+              "udp 198.51.100.7:9 > 192.0.2.1:53  pass L2 rdr L1 -> pass L1  1 packet, first 1, 2 follow",
+              "block L3 -> pass L1: 1 packet in 1 flow, 1 follows", "pass L2 rdr L1 -> pass L1: 1 packet in 1 flow",
+              "pass L2 rdr L1 -> block L2: 1 packet in 1 flow, 1 follows", "3 of 3 packets change: 1 cause",
+              tap="stack", inside=OWN_INSIDE)
 
 
 def ways():
@@ -166,7 +172,7 @@ def ways():
                         network=LINKTYPE_ETHERNET)
     pair = "pass L2 -> block L2"
     lines = (f"{FLOW_CAME}  {pair}  1 packet, first 1", f"{FLOW_OUT}  {pair}  1 packet, first 3",
-             f"{pair}: 2 packets in 2 flows", "2 of 4 packets change")
+             f"{pair}: 2 packets in 2 flows", "not judged: 1 ARP", "2 of 4 packets change: 2 causes")
     for inside in (None, INSIDE):
         yield Row(f"frames from the interface go out, inside {inside}",
                   question_of(BOTH_WAYS, "block in no state\nblock out", frames, inside, **ADDRESSED), lines)
@@ -185,8 +191,9 @@ def seeds():
     packets = [ASKED, answer, (90, answer)]
     flow, pair = "udp 198.51.100.7:53 > 192.0.2.1:61765", "block L2 -> return L2"
     yield one_line("an answer to the port of the seed", nat, answering, packets, flow, pair, 3)
-    yield row("an answer to the port of another seed", nat, answering, packets, f"{flow}  {pair}  2 packets, first 2",
-              f"{pair}: 2 packets in 1 flow", "2 of 3 packets change", seed="ff" * 32)
+    yield row("an answer to the port of another seed", nat, answering, packets,
+              f"{flow}  {pair}  1 packet, first 2, 1 follows", f"{pair}: 2 packets in 1 flow, 1 follows",
+              "2 of 3 packets change: 1 cause", seed="ff" * 32)
 
 
 def rows():

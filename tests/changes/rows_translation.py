@@ -20,19 +20,19 @@ TO_SERVER = f"block in\npass in to {SERVER}"
 def nat_comes_and_goes():
     translated, packets = f"{ONE_PORT}\n{BASE}", [ASKED, ANSWER, ANSWERED]
     pairs = ("pass L2 -> pass L3 nat L1", "block L1 -> pass L3 nat L1", "pass L2 -> block L2")
-    yield row("nat comes", BASE, translated, packets, f"{FLOW_OUT}  {pairs[0]}  1 packet, first 1",
-              f"{FLOW_ANSWER}  {pairs[1]}  1 packet, first 2",
-              # the answer is of the flow of the question, and isn't sent to the translated one
-              f"{FLOW_OUT}  {pairs[2]}  1 packet, first 3", *(f"{pair}: 1 packet in 1 flow" for pair in pairs),
-              "3 of 3 packets change")
+    yield row("nat comes", BASE, translated, packets, f"{FLOW_OUT}  {pairs[0]}  1 packet, first 1, 2 follow",
+              # the answer to the translated end is of another flow, and follows by its state
+              f"{pairs[1]}: 1 packet in 1 flow, 1 follows", f"{pairs[0]}: 1 packet in 1 flow",
+              # the other answer is of the flow of the question
+              f"{pairs[2]}: 1 packet in 1 flow, 1 follows", "3 of 3 packets change: 1 cause")
     pairs = ("pass L3 nat L1 -> pass L2", "pass L3 nat L1 -> block L1", "block L2 -> pass L2")
-    yield row("nat goes", translated, BASE, packets, f"{FLOW_OUT}  {pairs[0]}  1 packet, first 1",
-              f"{FLOW_ANSWER}  {pairs[1]}  1 packet, first 2", f"{FLOW_OUT}  {pairs[2]}  1 packet, first 3",
-              *(f"{pair}: 1 packet in 1 flow" for pair in pairs), "3 of 3 packets change")
+    yield row("nat goes", translated, BASE, packets, f"{FLOW_OUT}  {pairs[0]}  1 packet, first 1, 2 follow",
+              f"{pairs[2]}: 1 packet in 1 flow, 1 follows", f"{pairs[0]}: 1 packet in 1 flow",
+              f"{pairs[1]}: 1 packet in 1 flow, 1 follows", "3 of 3 packets change: 1 cause")
     pairs = ("block L1 -> pass L3 nat L1", "pass L2 -> block L2")
     yield row("nat comes, by the verdict", BASE, translated, packets, f"{FLOW_ANSWER}  {pairs[0]}  1 packet, first 2",
               f"{FLOW_BACK}  {pairs[1]}  1 packet, first 3", *(f"{pair}: 1 packet in 1 flow" for pair in pairs),
-              "2 of 3 packets change", by_verdict=True)
+              "2 of 3 packets change: 2 causes", by_verdict=True)
     yield one_line("nat without a rule of the filter", "", ONE_PORT, [ASKED], FLOW_OUT,
                    "pass default -> pass default nat L1")
 
@@ -55,8 +55,8 @@ def nat_that_passes():
                    "pass default nat L1 -> pass nat L1")
     pair = "pass nat L1 -> block L1"
     yield row("a state of nat that passes", f"{passing}\nblock", "block", [ASKED, ANSWER],
-              f"{FLOW_OUT}  {pair}  1 packet, first 1", f"{FLOW_ANSWER}  {pair}  1 packet, first 2",
-              f"{pair}: 2 packets in 2 flows", "2 of 2 packets change")
+              f"{FLOW_OUT}  {pair}  1 packet, first 1, 1 follows", f"{pair}: 2 packets in 2 flows, 1 follows",
+              "2 of 2 packets change: 1 cause")
 
 
 def nat_changes():
@@ -79,10 +79,9 @@ def nat_changes():
     listed = "nat on em0 from {{ {}, 10.0.0.5 }} to any -> em0 port 50001\n" + BASE
     yield none("a list of nat whose other element changes", listed.format("10.9.9.9"), listed.format("10.8.8.8"),
                [ASKED, ANSWER])
-    yield row("a rule of the filter behind nat", f"{ONE_PORT}\n{BASE}", f"{ONE_PORT}\nblock in\npass out label x",
-              [ASKED, ANSWER], f"{FLOW_OUT}  pass L3 nat L1 -> pass L3 nat L1  1 packet, first 1",
-              f"{FLOW_ANSWER}  pass L3 nat L1 -> pass L3 nat L1  1 packet, first 2",
-              "pass L3 nat L1 -> pass L3 nat L1: 2 packets in 2 flows", "2 of 2 packets change")
+    yield row("a rule of the filter behind nat", f"{ONE_PORT}\n{BASE}", f"{ONE_PORT}\nblock in\npass out allow-opts",
+              [ASKED, ANSWER], f"{FLOW_OUT}  pass L3 nat L1 -> pass L3 nat L1  1 packet, first 1, 1 follows",
+              "pass L3 nat L1 -> pass L3 nat L1: 2 packets in 2 flows, 1 follows", "2 of 2 packets change: 1 cause")
 
 
 # Rules of rdr
@@ -101,10 +100,9 @@ def redirected():
                    [TO_WEB], FLOW_TO_WEB, "pass L3 rdr L1 -> pass rdr L1")
     reply = udp(SERVER, 8080, P, 9)
     yield row("a reply to a redirected packet", f"{RDR}\n{TO_SERVER}", f"{TO_SERVER}\npass out no state",
-              [TO_WEB, reply], f"{FLOW_TO_WEB}  pass L3 rdr L1 -> block L1  1 packet, first 1",
-              "udp 10.0.0.1:8080 > 198.51.100.7:9  pass L3 rdr L1 -> pass L3  1 packet, first 2",
-              "pass L3 rdr L1 -> block L1: 1 packet in 1 flow", "pass L3 rdr L1 -> pass L3: 1 packet in 1 flow",
-              "2 of 2 packets change")
+              [TO_WEB, reply], f"{FLOW_TO_WEB}  pass L3 rdr L1 -> block L1  1 packet, first 1, 1 follows",
+              "pass L3 rdr L1 -> block L1: 1 packet in 1 flow",
+              "pass L3 rdr L1 -> pass L3: 1 packet in 1 flow, 1 follows", "2 of 2 packets change: 1 cause")
     listed = f"rdr to em0 port {{{{ {{}}, 80 }}}} -> {SERVER} port 8080\n{TO_SERVER}"
     yield none("a list of rdr whose other element changes", listed.format(81), listed.format(82), [TO_WEB])
 
@@ -116,10 +114,10 @@ def one_for_another():
     came, flow_came = udp(P, 9, B, 80), "udp 198.51.100.7:9 > 192.0.2.9:80"
     opened = f"block in\npass in to {H}\npass out"
     yield row("binat comes", opened, f"{binat}\n{opened}", [ASKED, came],
-              f"{FLOW_OUT}  pass L3 -> pass L4 binat L1  1 packet, first 1",
               f"{flow_came}  block L1 -> pass L3 binat L1  1 packet, first 2",
-              "pass L3 -> pass L4 binat L1: 1 packet in 1 flow", "block L1 -> pass L3 binat L1: 1 packet in 1 flow",
-              "2 of 2 packets change")
+              f"{FLOW_OUT}  pass L3 -> pass L4 binat L1  1 packet, first 1",
+              "block L1 -> pass L3 binat L1: 1 packet in 1 flow", "pass L3 -> pass L4 binat L1: 1 packet in 1 flow",
+              "2 of 2 packets change: 2 causes")
     yield one_line("binat to another address", f"{binat}\n{opened}", f"{binat[:-1]}8\n{opened}", [came], flow_came,
                    "pass L3 binat L1 -> block L2")
     for more in ("", " static-port"):
@@ -143,17 +141,16 @@ def of_all_kinds():
               "udp 10.0.0.6:9 > 198.51.100.7:9  pass L4 nat L1 -> pass L1  1 packet, first 3",
               f"{FLOW_CAME}  pass L4 rdr L2 -> pass L1  1 packet, first 4",
               "pass L4 binat L3 -> pass L1: 2 packets in 2 flows", "pass L4 nat L1 -> pass L1: 1 packet in 1 flow",
-              "pass L4 rdr L2 -> pass L1: 1 packet in 1 flow", "4 of 4 packets change")
+              "pass L4 rdr L2 -> pass L1: 1 packet in 1 flow", "4 of 4 packets change: 4 causes")
 
 
 def echoes():
     """An echo has no ports in its flow, though its identifier is translated."""
     request, back = echo(H, P, True, 7, 1), echo(P, E, False, 7, 1)
     yield row("a translated echo and its reply", f"{NAT} static-port\n{BASE}", BASE, [request, back],
-              "icmp 10.0.0.5 > 198.51.100.7  pass L3 nat L1 -> pass L2  1 packet, first 1",
-              "icmp 198.51.100.7 > 192.0.2.1  pass L3 nat L1 -> block L1  1 packet, first 2",
-              "pass L3 nat L1 -> pass L2: 1 packet in 1 flow", "pass L3 nat L1 -> block L1: 1 packet in 1 flow",
-              "2 of 2 packets change")
+              "icmp 10.0.0.5 > 198.51.100.7  pass L3 nat L1 -> pass L2  1 packet, first 1, 1 follows",
+              "pass L3 nat L1 -> pass L2: 1 packet in 1 flow",
+              "pass L3 nat L1 -> block L1: 1 packet in 1 flow, 1 follows", "2 of 2 packets change: 1 cause")
 
 
 def rows():

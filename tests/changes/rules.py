@@ -1,7 +1,7 @@
 """The rules of a ruleset as the command `diff` tells them apart: what each one says, and where it stands.
 
 Two rules are one if they say the same. What a rule says is all that the model of the expansion has of it, but for its
-number, its line and the anchors round it. A table is told by its name, whatever is in it.
+number, its line, its label and the anchors round it. A table is told by its name, whatever is in it.
 """
 
 from dataclasses import replace
@@ -11,9 +11,13 @@ from steps.replay import ruleset_of
 
 
 class Known(NamedTuple):
-    """A rule: what it says, and the words for the line of its file on which it stands."""
+    """A rule: what it says, the line of its file on which it stands, and the kind of one of translation."""
     said: object
-    place: str
+    line: int
+    kind: str | None = None
+
+    def words(self):
+        return f"L{self.line}" if self.kind is None else f"{self.kind} L{self.line}"
 
 
 class Rules(NamedTuple):
@@ -23,7 +27,7 @@ class Rules(NamedTuple):
 
 
 def filter_rule(rule, lines):
-    return Known(replace(rule, line=0, anchors=()), f"L{lines[rule.line - 1]}")
+    return Known(replace(rule, line=0, label=None, anchors=()), lines[rule.line - 1])
 
 
 def ports_of(kind, rule):
@@ -36,7 +40,7 @@ def ports_of(kind, rule):
 
 def translation_rule(kind, rule, lines):
     said = rule._replace(number=0, line=0, ports=ports_of(kind, rule))
-    return Known((kind, said), f"{kind} L{lines[rule.line - 1]}")
+    return Known((kind, said), lines[rule.line - 1], kind)
 
 
 def rules_of(read, interfaces):

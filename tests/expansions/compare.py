@@ -201,7 +201,7 @@ def compare_model():
 
 
 def compare_hostile():
-    """Of how many hostile texts the proved program says something else."""
+    """How many hostile texts the proved program answers otherwise."""
     texts = list(hostile())
     right = [answer_of(text) if text.answer else model_answer(text, counts_alone=True) for text in texts]
     seen = checking.said_of_each(building.pfreplay(), texts)

@@ -1,13 +1,17 @@
 """Which endings of the command `diff` are lawful under each fault.
 
 The words behind `diff` are the capture, the old and the new ruleset, and the flags. Nothing is printed before all
-captures are read, and only standard output and standard error are written. The model tells what is answered if a file
-ends early.
+captures are read, and only standard output and standard error are written. Before the answer warnings are said, unless
+that is left out: so they are there if a write fails, and maybe if memory is refused. The model tells what is answered
+if a file ends early.
 
 The capture of the interface at place K is called `captureK`, but for that of the first one.
 """
 
+import re
+
 from changes.model import Question, modelled
+from changes.printed import TEXT
 from faults.judging import also_of, also_places, judge_answer, records_told, texts_in
 from faults.replay import ANSWER, CAPTURE_NAMES, CAPTURES, ERROR, MEMORY, TRANSFER, judge_lost
 from faults.trial import Part, Target, check, ending_told, lawful
@@ -36,6 +40,7 @@ TEXTS = (
     ("no memory", 4, rb"no memory"),
     ("no memory", 4, rb"no memory, committed 0"),
 )
+WARNINGS = re.compile(rb"(?:pfreplay: warning: [^\n]*\n)*")
 
 
 # The command
@@ -49,7 +54,7 @@ def places(command):
 
 def flags_of(command):
     """The flags with their values."""
-    words = [word for word in command[command.index("diff") + 4:] if word != "--verdicts"]
+    words = [word for word in command[command.index("diff") + 4:] if word not in ("--verdicts", "--quiet")]
     return dict(zip(words[::2], words[1::2]))
 
 
@@ -68,7 +73,8 @@ def question_of(command, texts):
     flags = flags_of(command)
     case = Case("", texts["old"], flags.get("--inside"), texts["capture"], flags["--interface"], flags["--address"],
                 flags.get("--seed", NO_SEED), also_of(command, texts), flags.get("--tap"))
-    return Question(case, texts["new"], "--verdicts" in command)
+    return Question(case, texts["new"], "--verdicts" in command, form=flags.get("--format", TEXT),
+                    is_quiet="--quiet" in command)
 
 
 def rulesets_of(trial):
@@ -83,25 +89,44 @@ def judge(trial, fault, counts, seen):
     if fault.target in (*CAPTURES, OLD, NEW) and fault.deed == "zero":
         return judge_shorter(trial, fault, counts, seen)
     if fault.target == ERROR and fault.deed != "cut":
-        return judge_lost(trial.clean, seen)
+        return judge_lost_line(trial.clean, seen)
     ending, told = told_of(trial, seen)
     lawful(ending, fault, LAWFUL)
     check_printed(trial, ending, seen)
+    check_warned(trial, ending, seen)
     if ending == "read failed":
         check_read(trial, fault, counts, told)
     elif ending == "cannot open":
         check(told == (trial.name_of(fault.target.file).encode(),), "standard error names another file")
     elif ending == "no memory":
-        check(not seen.out or b"committed" not in seen.err, "something is printed before the words were read")
+        is_first = not seen.out and not warned_in(seen)
+        check(is_first or b"committed" not in seen.err, "something is printed before the words were read")
     return ending
+
+
+def judge_lost_line(clean, seen):
+    """Where standard error can't be written one of several lines may be lost, all of it or its end, since each is
+    written by itself. Or all that follows may be lost."""
+    rows = clean.err.splitlines(keepends=True)
+    for place, row in enumerate(rows):
+        before, behind = b"".join(rows[:place]), b"".join(rows[place + 1:])
+        left = seen.err.removeprefix(before).removesuffix(behind)
+        if before + left + behind == seen.err and row.startswith(left):
+            return judge_lost(clean, seen._replace(err=before + left))
+    return judge_lost(clean, seen)
 
 
 def told_of(trial, seen):
     """The ending that status and standard error tell, and what is told besides."""
     if seen == trial.clean:
         return "whole", ()
-    ending, found = ending_told(TEXTS, seen)
+    ending, found = ending_told(TEXTS, seen._replace(err=seen.err[len(warned_in(seen)):]))
     return ending, found.groups()
+
+
+def warned_in(seen):
+    """The warnings, which are said first."""
+    return WARNINGS.match(seen.err)[0]
 
 
 def check_printed(trial, ending, seen):
@@ -111,6 +136,16 @@ def check_printed(trial, ending, seen):
     if ending != "whole":
         check(trial.clean.out.startswith(seen.out), "standard output is no part of the whole one")
         check(seen.out != trial.clean.out or not seen.out, "standard output is whole")
+
+
+def check_warned(trial, ending, seen):
+    """All warnings are there if a write failed, and none if a file isn't read. If memory was refused some may be."""
+    whole, warned = warned_in(trial.clean), warned_in(seen)
+    if ending in ("read failed", "cannot open"):
+        check(not warned, "there are warnings, though a file wasn't read")
+    elif ending == "write failed":
+        check(warned == whole, "the warnings aren't whole")
+    check(whole.startswith(warned), "there are other warnings")
 
 
 def check_read(trial, fault, counts, told):

@@ -12,7 +12,7 @@ from faults.judging import judge_answer
 from faults.replay import ANSWER, ERROR, MEMORY, TRANSFER, judge_lost
 from faults.trial import Target, Unlawful, lawful
 from telling import model
-from telling.model import Asked
+from telling.model import TEXT, Asked
 
 RULES, COUNTERS = (Target("read", "", TRANSFER, name) for name in ("rules", "counters"))
 INPUTS = (RULES, COUNTERS)
@@ -45,7 +45,7 @@ def asked_of(trial):
     interfaces = [interface_of(flags["--interface"], flags["--address"])]
     interfaces += [interface_of(*word.split(",")) for flag, word in values if flag == "--also"]
     octets = {name: Path(words[place]).read_bytes() for name, place in places(words).items()}
-    return Asked(octets["rules"], tuple(interfaces), octets.get("counters"))
+    return Asked(octets["rules"], tuple(interfaces), octets.get("counters"), form=flags.get("--format", TEXT))
 
 
 def texts(trial, fault):

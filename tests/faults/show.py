@@ -65,7 +65,7 @@ def asked_of(flags):
     only, host = flags.get("--only"), flags.get("--host")
     rule, line = (flags.get(flag) for flag in ("--rule", "--line"))
     return Asked(only and tuple(only.split(",")), rule and int(rule), line and int(line), host and network_of(host),
-                 "--logged" in flags)
+                 "--logged" in flags, flags.get("--port"), flags.get("--proto"))
 
 
 def texts_of(trial):

@@ -16,7 +16,7 @@ import building
 from runs.shown_commands import DOCUMENTS, FOLDERS, RUN, commands
 
 # what stands in a copy of the repository; what was made is left out
-COPIED = ("crates", "crates.txt", "HANDLES", "examples", "pfreplay", "unproved")
+COPIED = ("crates", "crates.txt", "HANDLES", "examples", "pfreplay", "proofs", "unproved")
 CHECK = "check examples/server.conf --interface em0 --address 192.0.2.1/24".split()
 ANSWER = b"16 filter, 0 translation, 259dc205d2ba5f3f0ab9adef9d4a7ecb\n"
 SAID = (b"pfreplay: this program isn't proved yet, and slow: ./pfreplay prove makes the proved one (", b" minutes here)\n")

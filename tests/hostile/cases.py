@@ -288,6 +288,8 @@ def viewed_capture(draw, given):
         rows = new.splitlines(keepends=True)
         draw.shuffle(rows)
         new = b"".join(rows[:draw.randint(0, len(rows))]) if draw.random() < 0.5 else damaged_ruleset(draw, new)
+    ways += ("--format", "json") if draw.random() < 0.3 else ()
+    ways += ("--quiet",) if draw.random() < 0.3 else ()
     return Input("diff", ("diff", CAPTURE, RULES, NEW_RULES, *INTERFACE, *ways), {**given.files, NEW_RULES: new})
 
 
@@ -364,6 +366,7 @@ def reported(draw):
     if draw.random() < 0.5:
         files[LEFT] = damaged_states(draw).files[LEFT] if draw.random() < 0.5 else some_file(draw).octets
         more = (*more, "--states", LEFT)
+    more = (*more, "--quiet") if draw.random() < 0.3 else more
     return Input("report", ("report", CAPTURE, VERDICTS, RULES, *INTERFACE, *more), files)
 
 

@@ -21,9 +21,9 @@ SECONDS, MEGABYTES = 2, 512
 PATIENCE = 10
 DONE, REFUSED, CUT, FAILED = range(4)
 # those of `diff`
-CHANGED, TROUBLE = REFUSED, CUT
+CHANGED, TROUBLE, UNJUDGED = REFUSED, CUT, 5
 STATUSES = {"check": (DONE, REFUSED), "adapt": (DONE, REFUSED), "run": (DONE, REFUSED, CUT), "standby": (DONE, REFUSED),
-            "states": (DONE, REFUSED), "rules": (DONE, REFUSED), "diff": (DONE, CHANGED, TROUBLE),
+            "states": (DONE, REFUSED), "rules": (DONE, REFUSED), "diff": (DONE, CHANGED, TROUBLE, UNJUDGED),
             "show": (DONE, REFUSED), "report": (DONE, REFUSED)}
 ONE_LINE = re.compile(rb"pfreplay: [^\n]*\n")
 # the one device that fails: a file that isn't there
@@ -107,7 +107,7 @@ class Trial:
         command = given.words[0] if given.words and given.words[0] in STATUSES else None
         if ended.status not in (*STATUSES.get(command, (DONE, REFUSED)), FAILED):
             yield f"status {ended.status}"
-        if not is_said_well(command, ended):
+        if not is_said_well(command, ended) or warns(ended) and not may_warn(given.words, ended):
             yield f"status {ended.status} and {ended.err[:300]!r}"
         if command == "run" and ended.status in (DONE, CUT) and not self.agree(ended):
             yield f"{ended.out!r}, and other lines"
@@ -121,11 +121,24 @@ class Trial:
         return found and int(found[1]) == (self.folder / "verdicts").read_bytes().count(b"\n")
 
 
+def warns(ended):
+    return any(row.startswith(WARNING) for row in ended.err.splitlines())
+
+
+def may_warn(words, ended):
+    """Whether a run of these words may warn if it ended so."""
+    command = words[0] if words else None
+    if command == "run":
+        return "--warn" in words
+    answered = {"diff": (DONE, CHANGED, UNJUDGED), "report": (DONE,)}.get(command, ())
+    return ended.status in answered and "--quiet" not in words
+
+
 def is_said_well(command, ended):
     """Whether what is said fits the status: a refusal in one line behind remarks and warnings, and else these alone."""
     rows = ended.err.splitlines(keepends=True)
     others = [row for row in rows if not REMARK.match(row) and not row.startswith(WARNING)]
-    if ended.status == DONE or ended.status == (CHANGED if command == "diff" else CUT):
+    if ended.status in ((DONE, CHANGED, UNJUDGED) if command == "diff" else (DONE, CUT)):
         return not others
     if ended.status == FAILED:
         return len(others) == 1 and bool(CANNOT_OPEN.fullmatch(others[0]))

@@ -261,6 +261,8 @@ def spelled(value):
     """A value of JSON as it is printed: without blanks, and with all but printed ASCII escaped."""
     if isinstance(value, dict):
         return "{" + ",".join(f'"{name}":{spelled(each)}' for name, each in value.items()) + "}"
+    if isinstance(value, list):
+        return "[" + ",".join(map(spelled, value)) + "]"
     if isinstance(value, str):
         return '"' + "".join(letter if " " <= letter <= "~" and letter not in '"\\' else f"\\u{ord(letter):04x}"
                              for letter in value) + '"'

@@ -11,7 +11,7 @@ from showing import asking
 from showing.asking import CAPTURE, LINES, expect_one_of, interface_words, paired, without_remarks
 from showing.model import NAME
 
-LEFT = "left"
+LEFT, QUIET = "left", "--quiet"
 
 
 def lay_out(comparison, question):
@@ -22,11 +22,13 @@ def lay_out(comparison, question):
         (comparison.folder / LEFT).write_bytes(question.states)
 
 
-def flags(comparison, question, others=None, states=LEFT):
-    """All flags of a question, maybe with other names for the captures of its other interfaces and for its states."""
+def flags(comparison, question, others=None, states=LEFT, is_quiet=True):
+    """All flags of a question, maybe with other names for the captures of its other interfaces and for its states, and
+    maybe without the one that leaves warnings out."""
     captures = others or [capture.name for capture in comparison.other_captures]
     given = [] if question.states is None else [f"--states={states}"]
-    return [*paired(interface_words(question.shown, captures)), *given, *adapting(question.surroundings)]
+    return [*paired(interface_words(question.shown, captures)), *given, *adapting(question.surroundings),
+            *[QUIET] * is_quiet]
 
 
 def command_of(program, folder, question):
@@ -34,12 +36,13 @@ def command_of(program, folder, question):
     captures = [folder / name for name in question.captures()[1:]]
     given = [] if question.states is None else ["--states", folder / LEFT]
     return list(map(str, [program, "report", *(folder / name for name in (CAPTURE, LINES, NAME)),
-                          *interface_words(question.shown, captures), *given]))
+                          *interface_words(question.shown, captures), *given, QUIET]))
 
 
-def asked(comparison, question, capture=CAPTURE, lines=LINES, rules=NAME, others=None, states=LEFT, **how):
+def asked(comparison, question, capture=CAPTURE, lines=LINES, rules=NAME, others=None, states=LEFT, is_quiet=True,
+          **how):
     """What the command answers to a question, whose files are there; maybe by other names."""
-    words = ["report", capture, lines, rules, *flags(comparison, question, others, states)]
+    words = ["report", capture, lines, rules, *flags(comparison, question, others, states, is_quiet)]
     return comparison.execute(words, home=comparison.folder, **how)
 
 
@@ -57,7 +60,7 @@ def as_read(seen):
                          octets_of(page, faults))
 
 
-def expect_answer(comparison, name, question, seen, names=None):
+def expect_answer(comparison, name, question, seen, names=None, is_quiet=True):
     """What is seen is one of the outcomes that are right for a question."""
     told = as_read(without_remarks(seen, question.shown.remarks(*([names.rules] if names else []))))
-    expect_one_of(comparison, name, answers(question, names), told)
+    expect_one_of(comparison, name, answers(question, names, is_quiet), told)

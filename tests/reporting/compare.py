@@ -15,7 +15,7 @@ from collections import Counter
 sys.dont_write_bytecode = True
 
 from faults.command import ends_lawfully
-from reporting import cases, checks, files, judged, lines, made_up, model, progress, rows
+from reporting import cases, checks, files, included, judged, lines, made_up, model, progress, rows
 from reporting.asking import asked, command_of, expect_answer, lay_out, page_read
 from reporting.files import BROKEN, CUT, LACKING, STATELESS, TWO, WITH_STATES
 from reporting.kinds import counts_of, told_drawn
@@ -64,14 +64,26 @@ def program_rows(comparison):
     """What the program answers to the rows."""
     for number, row in enumerate(rows.rows()):
         lay_out(comparison, row.question)
-        seen = asked(comparison, row.question)
         if row.said:
+            seen = asked(comparison, row.question, is_quiet=False)
             comparison.expect(row.name, row.outcome(), without_remarks(seen, row.told()))
-        else:
-            comparison.expect(f"{row.name}: the status", 0, seen and seen.status)
-            expect_parts(comparison, row, page_read(seen.out) if seen else None)
-            expect_answer(comparison, row.name, row.question, seen)
-            expect_read(comparison, row.name, seen, number)
+            continue
+        is_quiet = number % 2 == 0
+        seen = asked(comparison, row.question, is_quiet=is_quiet)
+        comparison.expect(f"{row.name}: the status", 0, seen and seen.status)
+        expect_parts(comparison, row, page_read(seen.out) if seen else None)
+        expect_answer(comparison, row.name, row.question, seen, is_quiet=is_quiet)
+        expect_read(comparison, row.name, seen, number)
+        if row.warnings is not None:
+            expect_warned(comparison, row, seen)
+
+
+def expect_warned(comparison, row, seen):
+    """What is said on standard error, and the page, are those that are written out, or that were seen."""
+    for is_quiet, said in ((True, b""), (False, row.err())):
+        again = without_remarks(asked(comparison, row.question, is_quiet=is_quiet), row.told())
+        comparison.expect(f"{row.name}: warnings, {'' if is_quiet else 'not '}quiet", seen and (seen.out, said),
+                          again and (again.out, again.err))
 
 
 def expect_read(comparison, name, seen, number=0):
@@ -95,9 +107,10 @@ def bad_lines(comparison):
 def good_lines(comparison):
     """Lines that fit, and the help."""
     lay_out(comparison, WITH_STATES)
-    for words, has_states in lines.good():
+    for words, has_states, is_quiet in lines.good():
         question = WITH_STATES if has_states else STATELESS
-        expect_answer(comparison, f"words {words}", question, comparison.execute(words, home=comparison.folder))
+        seen = comparison.execute(words, home=comparison.folder)
+        expect_answer(comparison, f"words {words}", question, seen, is_quiet=is_quiet)
     for words in (("--help",), ("report", "--help"), ("help", "report")):
         comparison.expect_help(words, lines.HELPED if "report" in words else (b"report",))
 
@@ -129,10 +142,11 @@ def drawn_by_program(comparison, number):
         return Counter()
     question = cases.question_of(drawn, outcome)
     lay_out(comparison, question)
-    seen = asked(comparison, question)
-    expect_answer(comparison, drawn.case.name, question, seen)
+    is_quiet = cases.is_quiet_at(number)
+    seen = asked(comparison, question, is_quiet=is_quiet)
+    expect_answer(comparison, drawn.case.name, question, seen, is_quiet=is_quiet)
     expect_read(comparison, drawn.case.name, seen, number)
-    return counts_of(drawn, question)
+    return counts_of(drawn, question, is_quiet)
 
 
 def drawn_by_model(comparison, number):
@@ -145,7 +159,7 @@ def drawn_by_model(comparison, number):
         page = model.page_of(question, model.default_names(question))
         expect_written(comparison, drawn.case.name, page)
         expect_sums(comparison, drawn.case.name, page)
-    return counts_of(drawn, question)
+    return counts_of(drawn, question, cases.is_quiet_at(number))
 
 
 def number_in(cell):
@@ -184,7 +198,7 @@ def compare(program, drawn=DRAWN):
         print(f"left out: what {left_out} says of pages")
     results = in_parts(program, {
         "pages written by hand and command lines": (program_rows, bad_lines, good_lines),
-        "files and outputs": (files.compare,),
+        "files and outputs": (files.compare, included.compare),
         "how far a command has come": (progress.compare,),
         "questions with a fault at each call": (faults,)})
     return [*results, told_drawn("random questions", in_processes(drawn_by_program, program, drawn))]

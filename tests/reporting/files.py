@@ -7,10 +7,9 @@ from itertools import combinations_with_replacement
 from threading import Thread
 
 from changes.files import piped
-from reporting.asking import LEFT, as_read, asked, expect_answer, flags, lay_out, page_read
+from reporting.asking import LEFT, as_read, asked, expect_answer, flags, lay_out
 from reporting.model import Names, Question, answer
-from reporting.row import ONE, question_of
-from reporting.rows_rules import EMPTY, UNUSED, used
+from reporting.row import ONE
 from reporting.rows_states import states_of
 from runs.devices import feed
 from runs.model import cannot_open, failed, refused
@@ -18,7 +17,6 @@ from showing import files as showing_files
 from showing.asking import CAPTURE, LINES, STANDARD, expect_one_of
 from showing.files import BAD, NOWHERE, UNORDERED, UNREAD, UNWRITTEN
 from showing.model import NAME
-from showing.row import KNOCK, capture_of, verdicts_of
 from workers.pipes import without_reader
 
 STATELESS = ONE
@@ -61,12 +59,12 @@ def told_of(thing, seen):
 
 
 def in_order(comparison):
-    """Each thing that can be spoilt alone, and each two at once."""
+    """Each thing that can be spoilt alone, and each two at once. Nothing is said besides."""
     for things in map(set, combinations_with_replacement(THINGS, 2)):
         question, (*names, states) = spoilt(things)
         lay_out(comparison, question)
-        more = ["--quiet"] if "words" in things else []
-        words = ["report", *names, *flags(comparison, question, states=states), *more]
+        more = ["--warn"] if "words" in things else []
+        words = ["report", *names, *flags(comparison, question, states=states, is_quiet=False), *more]
         seen = comparison.execute(words, home=comparison.folder)
         first = sorted(things, key=THINGS.index)[:2 if are_unordered(things) else 1]
         expect_one_of(comparison, f"spoilt: {', '.join(sorted(things))}", [told_of(each, seen) for each in first], seen)
@@ -126,27 +124,6 @@ def ruleset_by_a_sign(comparison):
     expect_answer(comparison, "a ruleset of that name", ONE, asked(comparison, ONE, rules=STANDARD),
                   Names(ONE.captures(), STANDARD))
     (comparison.folder / STANDARD).unlink()
-
-
-def included(comparison):
-    """Rules of both kinds stand on one line, on which a file is included. Those that begin with `no` don't count, and a
-    packet of two rules of the line counts once."""
-    more = b"no nat on em0 from 10.0.0.1 to any\nrdr on em0 from any to em0 -> 10.0.0.1\nblock in log (all)\nblock in\n"
-    rules = "# <&>\ninclude \"more\"\npass out"
-    for said, row, unused in (
-            ("in block rule r=0 t=1 s=-", used(), (("3", "1", "", "pass out"),)),
-            ("in block rule r=1 t=- s=-", used(), (("3", "1", "", "pass out"),)),
-            ("out block rule r=2 t=- s=-", UNUSED, (("2", "3", "", 'include "more"'),))):
-        question = question_of(rules, capture_of(KNOCK), verdicts_of(said))
-        lay_out(comparison, question)
-        (comparison.folder / "more").write_bytes(more)
-        words = ["report", CAPTURE, LINES, NAME, *flags(comparison, question), "--adapt", "--include", "more=more"]
-        seen = comparison.execute(words, home=comparison.folder)
-        page = page_read(seen.out) if seen else None
-        last = used() if row == UNUSED else UNUSED
-        expected = ((("", "1", *EMPTY, "# <&>"), (row[0], "2", *row[1:], 'include "more"'),
-                     (last[0], "3", *last[1:], "pass out")), unused)
-        comparison.expect(f"a line of both kinds of rules, {said}", expected, page and (page.rules, page.unused))
 
 
 # Standard input
@@ -240,6 +217,11 @@ def outputs(comparison):
             expect_one_of(comparison, f"{name} to a full disk", allowed, asked(comparison, question, out=full))
         with without_reader() as gone:
             expect_one_of(comparison, f"{name} that nobody reads", allowed, asked(comparison, question, out=gone))
+    lay_out(comparison, WITH_STATES)
+    with open("/dev/full", "wb") as full:
+        seen = asked(comparison, WITH_STATES, is_quiet=False, out=full)
+    comparison.expect("warnings, and a page to a full disk",
+                      UNWRITTEN._replace(err=answer(WITH_STATES, is_quiet=False).err + UNWRITTEN.err), seen)
 
 
 def again(comparison):
@@ -250,6 +232,6 @@ def again(comparison):
 
 
 def compare(comparison):
-    for part in (in_order, odd_files, odd_names, of_two, ruleset_by_a_sign, included, from_standard_input,
-                 odd_standard_inputs, in_pieces, behind_a_run, outputs, again):
+    for part in (in_order, odd_files, odd_names, of_two, ruleset_by_a_sign, from_standard_input, odd_standard_inputs,
+                 in_pieces, behind_a_run, outputs, again):
         part(comparison)

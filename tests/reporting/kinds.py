@@ -4,7 +4,7 @@ from collections import Counter
 
 from captures.frames import Packet
 from reporting.model import AGES, all_told, answers, default_names, page_of, refused_states
-from reporting.page import UNUSED_ROW, USED
+from reporting.page import ROW_CLASSES
 from showing.damage import KINDS
 from showing.kinds import CUT, ENDINGS, JOINED, ending_of
 from standby.many import told
@@ -13,36 +13,56 @@ from standby.many import told
 EACH = 300
 BAD_STATES = "a state refused"
 STATES = ("without states", "states", "an empty file of states", *(name for name, _ in AGES[:4]))
-LINES = ("a used line", "an unused line", "a line without rules", "a line that did nothing", "a line of several rules",
-         "a shadowed line", "a line of translation")
+# the classes of lines, and what is said of those that did nothing
+CLASSES = {**{name: f"a line of class {name}" for name in ROW_CLASSES}, "": "a line without rules"}
+WHYS = {"shadowed by ": "a shadowed line", "not asked: ": "a line that wasn't asked"}
+LINES = (*CLASSES.values(), "a line that did nothing", "a line that was asked", *WHYS.values(),
+         "a line of several rules", "a line of several rules that wasn't asked", "a line of translation")
+# words of why a line wasn't asked. Rarer ones have rows of their own
+WORDS = ("no capture of ", "no packet comes in", "no packet goes out", "nothing on ", "has a state or isn't filtered",
+         "no connection comes in", "no connection goes out", "behind its translation", "isn't filtered")
+# words of warnings
+WARNINGS = ("no packet goes out", "no packet comes in", "no rule names ", "no capture is of ", "packets skipped: ",
+            "packets cut by the snapshot length: ", "parts of packets: ", "packets midway in a TCP connection: ",
+            ", and no connection begins", "states refused by a limit: ")
+TOLD = (*(f"not asked: {words}" for words in WORDS), *(f"warned: {words}" for words in WARNINGS))
 FLOWS = ("no blocked flow", "blocked flows", "a blocked flow of several packets", "a refused packet",
-         "a reason in the place of a rule", "a short flow", "ties")
-PROMISED = (*ENDINGS[:3], *STATES[:4], *LINES, *FLOWS[:4], "several spans", "several interfaces", "no damage")
+         "a blocked flow without a rule", "a short flow", "ties")
+QUIET, LOUD = "without warnings on standard error", "with warnings on standard error"
+PROMISED = (*ENDINGS[:3], *STATES[:4], *LINES, *FLOWS[:4], "several spans", "several interfaces", "no damage", QUIET,
+            LOUD)
 # each of these comes up once at least
-ONCE = (*ENDINGS[3:], BAD_STATES, *STATES[4:], *FLOWS[4:], "flows more", "translated packets", "parts",
-        *sorted(KINDS))
+ONCE = (*ENDINGS[3:], BAD_STATES, *STATES[4:], *FLOWS[4:], "no warning", *TOLD, "flows more",
+        "translated packets", "parts", *sorted(KINDS))
 
 
 def of_rules(page):
-    kinds = {USED: "a used line", UNUSED_ROW: "an unused line", "": "a line without rules"}
-    yield from (kinds[kind] for kind, *_ in page.rules)
+    yield from (CLASSES[kind] for kind, *_ in page.rules)
     for _, rules, why, _ in page.unused:
-        yield "a line that did nothing"
-        yield from ["a line of several rules"] if int(rules) > 1 else []
-        yield from ["a shadowed line"] if why else []
+        name = next((name for words, name in WHYS.items() if why.startswith(words)), "a line that was asked")
+        yield from ("a line that did nothing", name)
+        if int(rules) > 1:
+            yield from ("a line of several rules", f"a line of several rules{name.removeprefix('a line')}")
+        yield from (f"not asked: {words}" for words in WORDS if words in why)
+
+
+def of_warnings(page):
+    yield from (f"warned: {words}" for words in WARNINGS for text in page.warnings if words in text)
+    yield from [] if page.warnings else ["no warning"]
 
 
 def of_flows(page):
     yield "blocked flows" if page.blocked else "no blocked flow"
     counts = [int(row[0]) for row in page.blocked]
     held = {"a blocked flow of several packets": max(counts, default=0) > 1, "ties": len(counts) > len(set(counts)),
-            "a reason in the place of a rule": any(not row[4].isdigit() for row in page.blocked),
+            "a blocked flow without a rule": any(not row[4] for row in page.blocked),
             "a short flow": any(row[2] == "short" for row in page.blocked), "flows more": page.more}
     yield from (name for name, is_so in held.items() if is_so)
 
 
 def of_page(page):
     """What comes up on a page."""
+    yield from of_warnings(page)
     yield from of_rules(page)
     yield from of_flows(page)
     yield from ["several spans"] if len(page.spans) > 1 else []
@@ -58,10 +78,11 @@ def of_packets(question):
         yield from ["parts"] if isinstance(seen, Packet) and seen.is_fragment else []
 
 
-def of_question(drawn, question):
+def of_question(drawn, question, is_quiet):
     """What comes up with a question."""
     expected = answers(question)[0]
     yield drawn.damage or "no damage"
+    yield QUIET if is_quiet else LOUD
     yield "without states" if question.states is None else "states"
     yield from ["an empty file of states"] if question.states == b"" else []
     yield from ["several interfaces"] if question.case.also else []
@@ -73,9 +94,9 @@ def of_question(drawn, question):
     yield from of_packets(question)
 
 
-def counts_of(drawn, question):
+def counts_of(drawn, question, is_quiet=True):
     """How often each thing comes up with a question, once at most."""
-    return Counter({*of_question(drawn, question)})
+    return Counter({*of_question(drawn, question, is_quiet)})
 
 
 def told_drawn(title, found):

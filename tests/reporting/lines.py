@@ -2,7 +2,7 @@
 files."""
 
 from changes.lines import BAD_ALSO, also
-from reporting.asking import LEFT
+from reporting.asking import LEFT, QUIET
 from runs.case import Line
 from runs.lines import spelled
 from showing.asking import CAPTURE, LINES
@@ -11,13 +11,14 @@ from showing.model import NAME
 
 STATES, PROGRESS = "--states", "--progress"
 # what the help shows, among other things
-HELPED = (b"<CAPTURE>", b"<VERDICTS>", b"<RULES>", b"--states", b"--adapt", b"--progress",
+HELPED = (b"<CAPTURE>", b"<VERDICTS>", b"<RULES>", b"--states", b"--adapt", b"--quiet", b"--progress",
           *(f"{flag} <{form}>".encode() for flag, form in FORMS.items()))
 # flags of other commands, and of none
 UNKNOWN = ("--inside=10.0.0.0/8", "--mac=em0=02:00:00:00:00:01", "--tap=stack", "--seed=00", "--batch=7", "--workers=0",
            "--packets=p", "--counters=c", "--messages=m", "--peer=127.0.0.1:9", "--warn", "--json", "--verdicts=lines",
            "--only=pass", "--rule=0", "--line=1", "--host=10.0.0.5", "--logged", "--count", "--format=html", "--html",
-           "--title=x", "--STATES=states", "--state=states", "--progress=yes", "--quiet", "-p", "-x")
+           "--title=x", "--STATES=states", "--state=states", "--progress=yes", "--quiet=yes", "--silent",
+           "--QUIET", "-p", "-q", "-x")
 
 
 def report_line(flags, *more):
@@ -55,8 +56,9 @@ def surplus_words():
         said = (f"'{flag} <".encode(), b"cannot be used multiple times")
         yield Line(report_line({**FLAGS, flag: value}, flag, value), said)
         yield Line(report_line({**FLAGS, flag: value}, f"{flag}={value}"), said)
-    yield Line(report_line(FLAGS, PROGRESS, PROGRESS), (f"'{PROGRESS}' cannot be used multiple times".encode(),))
-    for words in (("more",), (PROGRESS, "yes"), (STATES, LEFT, "more"), (NAME,)):
+    for flag in (PROGRESS, QUIET):
+        yield Line(report_line(FLAGS, flag, flag), (f"'{flag}' cannot be used multiple times".encode(),))
+    for words in (("more",), (PROGRESS, "yes"), (QUIET, "yes"), (STATES, LEFT, "more"), (NAME,)):
         yield Line(report_line(FLAGS, *words))
     for word in UNKNOWN:
         yield Line(report_line(FLAGS, word))
@@ -91,13 +93,14 @@ def bad():
 
 
 def good():
-    """Lines that fit: the words, and whether states are asked for."""
+    """Lines that fit: the words, whether states are asked for, and whether no warnings are."""
     flags = spelled(FLAGS)
     capture, verdicts, rules = FILES
     for words in ((*flags, *FILES), (capture, *flags, verdicts, rules), (*flags, "--", *FILES),
                   (*FILES, *(f"{flag}={value}" for flag, value in FLAGS.items()))):
-        for more in ((), (PROGRESS,)):
-            yield ("report", *more, *words), False
-            yield ("report", *more, STATES, LEFT, *words), True
-            yield ("report", f"{STATES}={LEFT}", *more, *words), True
-    yield ("report", capture, STATES, LEFT, verdicts, PROGRESS, rules, *flags), True
+        for more in ((), (PROGRESS,), (QUIET,)):
+            yield ("report", *more, *words), False, QUIET in more
+            yield ("report", *more, STATES, LEFT, *words), True, QUIET in more
+            yield ("report", f"{STATES}={LEFT}", *more, *words), True, QUIET in more
+    yield ("report", capture, STATES, LEFT, verdicts, PROGRESS, rules, *flags), True, False
+    yield ("report", capture, STATES, LEFT, verdicts, QUIET, PROGRESS, rules, *flags), True, True

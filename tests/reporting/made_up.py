@@ -29,16 +29,26 @@ WRONG = (
     ('height="66.67"', 'height="70"'), ("Each bar is 1 second.", "Each bar is 1 seconds."),
     ("<td>75.0 %</td>", "<td>75.0%</td>"), ("<td>75.0 %</td>", "<td> 75.0 %</td>"),
     ("<td>block in</td>", "<td>block in </td>"),
-    ('class="used"', 'class="unused"'), ('<tr class="unused">', "<tr>"), ("<td>capture</td>", "<td>./capture</td>"),
+    ('<tr class="block">', '<tr class="used">'), ('<tr class="block">', '<tr class="pass">'),
+    ('<tr class="unused">', "<tr>"), ('<tr class="unused">', '<tr class="unused block">'),
+    ("<td>capture</td>", "<td>./capture</td>"),
     ("<td>120</td>", "<td>0120</td>"), ("<td>pass out</td>", "<td>pass\nout</td>"),
-    ('<section id="rules">', '<section id="rules"><section id="rules">'))
+    ('<section id="rules">', '<section id="rules"><section id="rules">'),
+    ("<td>rule</td>", "<td></td>"), ("<th>Reason</th>", "<th>Why</th>"), ("What may not fit", "Warnings"),
+    ('<section id="warnings">', '<section id="warning">'), ("goes out</li>", "goes out.</li>"),
+    ("<li>em0", "<li>pfreplay: warning: em0"), ("<li>em0: no packet goes out</li>", ""),
+    ("goes out</li>", "goes out</li><li>em0: no packet comes in</li>"), ("<ul>", "<p>None.</p><ul>"),
+    ("<li>", "<li><ul><li>"), ("<li>em0", "<li>&#101;m0"), ("<ul>", "<ol>"),
+    ("<ul><li>em0: no packet goes out</li></ul>", "<p>None.</p>"),
+    ("<ul><li>em0: no packet goes out</li></ul>", "<p>em0: no packet goes out</p>"))
 # what may be otherwise
 RIGHT = (
     ("<body>", "<body><h1>A report</h1><main>"), ("</td>", ""), ("</tr>", ""), ("<td>block in</td>",
                                                                             "<td><code>block in</code></td>"),
     ("<table", '<table role="grid"'), ('<svg', '<svg xmlns="http://www.w3.org/2000/svg" role="img"'),
     ("<rect", '<rect fill="#a00"'), ('<section id="time">', '<section class="wide" id="time">'),
-    ("<section", "<div><section"), ("</g>", "</g><text x=\"1\">1</text>"), ("tr class=\"used\"", "tr class=\"x used\""),
+    ("<section", "<div><section"), ("</g>", "</g><text x=\"1\">1</text>"),
+    ("tr class=\"block\"", "tr class=\"x block\""), ("</li>", ""), ("<ul>", '<ul class="x">'),
     ('<g><title>', '<g transform="translate(0, 0)"><title>'))
 # the picture ends where its last bar does, or before
 NARROW = (('viewBox="0 0 16 200"', 'viewBox="0 0 15 200"'), ('viewBox="0 0 16 200"', 'viewBox="1 0 16 200"'),

@@ -11,12 +11,12 @@ from typing import NamedTuple
 from captures.frames import Packet
 from captures.model import Refused
 from changes.flows import flow_of
-from expansions.hosts import interface_of
 from listing.model import NoState, states_in
 from reporting.characters import shown
-from reporting.page import TITLE, UNUSED_ROW, USED, VERDICTS, Page, octets_of
+from reporting.page import TITLE, VERDICTS, Page, octets_of
 from reporting.spans import spans_of, time_words
-from reporting.standing import by_line, lines_of, standing_of, why_words
+from reporting.standing import by_line, class_of, lines_of, run_of, why_words
+from runs import warnings
 from runs.model import Outcome, refused
 from showing import model as showing_model
 from showing.asking import CAPTURE
@@ -92,6 +92,21 @@ def all_told(question):
             for packet, line in zip(question.shown.joined().packets, lines, strict=True)]
 
 
+# Warnings
+
+def warned(ruleset, told):
+    """What may not fit. Each byte of a name is a character."""
+    packets = [warnings.Packet(packet.place, packet.header, packet.record, said.direction, said.verdict, said.reason,
+                               said.state) for packet, said, *_ in told]
+    return list(warnings.told(warnings.REPORT, ruleset, packets))
+
+
+def warnings_of(question):
+    """The same of a question that is joined to its end."""
+    told = all_told(question)
+    return warned(run_of(question.shown, told).ruleset, told)
+
+
 # The parts of the page
 
 def summary_of(question, told, names):
@@ -116,16 +131,17 @@ def rules_of(told, lines, standing):
         found = [each for each in told if number in each.lines]
         kind, cells = "", ("", "", "")
         if number in standing:
-            kind, cells = USED if found else UNUSED_ROW, (*counted(found), share_of(len(found), len(told)))
+            kind, cells = class_of(standing[number], found), (*counted(found), share_of(len(found), len(told)))
         yield kind, str(number), *cells, shown(line)
 
 
-def unused_of(told, lines, standing):
+def unused_of(told, lines, run):
     used = frozenset().union(*(each.lines for each in told))
-    for number, rules in standing.items():
+    for number, rules in by_line(run.rules).items():
         rules = [rule for rule in rules if not rule.begins_with_no]
         if rules and number not in used:
-            yield str(number), str(len(rules)), why_words(rules), shown(lines[number - 1])
+            why = shown(why_words(run, rules).encode("latin-1"))
+            yield str(number), str(len(rules)), why, shown(lines[number - 1])
 
 
 def flows_of(told):
@@ -140,8 +156,8 @@ def flows_of(told):
 def blocked_of(flows, rules, names):
     for flow in flows[:MOST_FLOWS]:
         first = flow[0]
-        rule = first.said.reason if first.said.rule is None else str(rules.filter[first.said.rule].line)
-        yield (*counted(flow), first.flow, shown(os.fsencode(names[first.packet.place])), rule,
+        rule = "" if first.said.rule is None else str(rules.filter[first.said.rule].line)
+        yield (*counted(flow), first.flow, shown(os.fsencode(names[first.packet.place])), rule, first.said.reason,
                str(first.packet.number))
 
 
@@ -167,15 +183,15 @@ def ages_of(states, clock):
 def page_of(question, names):
     """What the page of a question says that is joined to its end."""
     told, lines = all_told(question), lines_of(question.case.rules)
-    interfaces = tuple(interface_of(*each) for each in question.case.interfaces())
-    standing = by_line(standing_of(question.shown.read(), interfaces))
+    run = run_of(question.shown, told)
     bar, spans = spans_of([(each.packet.clock, each.said.verdict) for each in told])
     flows, states = flows_of(told), None
     if question.states is not None:
         states = tuple(ages_of(states_in(question.states), told[-1].packet.clock if told else 0))
-    return Page(f"{TITLE}{shown(os.fsencode(names.rules))}", tuple(summary_of(question, told, names)),
-                tuple(verdicts_of(told)), bar, spans, tuple(rules_of(told, lines, standing)),
-                tuple(unused_of(told, lines, standing)),
+    texts = tuple(shown(each.encode("latin-1")) for each in warned(run.ruleset, told))
+    return Page(f"{TITLE}{shown(os.fsencode(names.rules))}", texts, tuple(summary_of(question, told, names)),
+                tuple(verdicts_of(told)), bar, spans, tuple(rules_of(told, lines, by_line(run.rules))),
+                tuple(unused_of(told, lines, run)),
                 tuple(blocked_of(flows, question.shown.rules(), question.shown.names())), more_of(flows), states)
 
 
@@ -203,19 +219,21 @@ def default_names(question):
 
 
 @lru_cache(maxsize=16)
-def answers(question, names=None):
-    """All outcomes that are right, the one by the letter first. A page stands there as the lines of its values."""
+def answers(question, names=None, is_quiet=True):
+    """All outcomes that are right with `--quiet` or without it, the one by the letter first. A page stands there as the
+    lines of its values."""
     refusal = rulesets_refusal(question)
     if refusal:
         return [refusal]
     joined = showing_model.answers(question.shown._replace(asked=Asked(), form=COUNT))
     instead = refused_states(question)
     if not instead and any(each.status == 0 for each in joined):
-        instead = [Outcome(octets_of(page_of(question, names or default_names(question))), b"", 0)]
+        said = b"" if is_quiet else warnings.said(warnings_of(question))
+        instead = [Outcome(octets_of(page_of(question, names or default_names(question))), said, 0)]
     found = [each if each.status else instead[0] for each in joined]
     return list(dict.fromkeys([*found, *refused_states(question)]))
 
 
-def answer(question, names=None):
+def answer(question, names=None, is_quiet=True):
     """The outcome by the letter of the formats."""
-    return answers(question, names)[0]
+    return answers(question, names, is_quiet)[0]

@@ -10,7 +10,7 @@ from captures.packets import capture_header, record, udp
 from changes.model import SOMETHING_CHANGES
 from hostile.costs import inbound, many_ranges
 from reporting import said_made_up
-from reporting.asking import flags, lay_out
+from reporting.asking import QUIET, flags, lay_out
 from reporting.files import BROKEN, CUT, LACKING, MANY, TWO, WITH_STATES
 from reporting.said import EVERY, TWICE, are_in_order, lines_in, terminal_lines
 from reporting.watched import PAUSE, watched
@@ -127,7 +127,7 @@ def in_a_short_run(comparison):
     for name, question in questions():
         lay_out(comparison, question)
         (comparison.folder / NEW).write_bytes(b"block out\npass in")
-        for words in short_words(question, flags(comparison, question)):
+        for words in short_words(question, flags(comparison, question, is_quiet=False)):
             plain = comparison.execute(words, home=comparison.folder)
             seen = comparison.execute([*words, PROGRESS], home=comparison.folder)
             comparison.expect(f"{words[0]}, {name}, with the flag", plain, seen)
@@ -220,6 +220,11 @@ def expect_long(comparison, command, seen):
             line.packets >= EVERY / PAUSE * PIECE * 0.5, line.states))
 
 
+def for_long_words(command):
+    """The words of a command that says nothing but how far it has come."""
+    return [*command.words, PROGRESS, *[QUIET] * (command.words[0] != "run")]
+
+
 def for_long(comparison):
     """Commands to which packets or lines come for some thirteen seconds, all at once; one can't say anything."""
     commands, folder = list(slow_commands(comparison.folder, LONG)), comparison.folder
@@ -230,7 +235,7 @@ def for_long(comparison):
     with ThreadPoolExecutor(len(folders)) as pool, open("/dev/full", "wb") as full:
         unsaid = pool.submit(watched, [comparison.program, *commands[0].words, PROGRESS], folders[-1],
                              commands[0].pieces, err=full)
-        seen = list(pool.map(lambda command, home: watched([comparison.program, *command.words, PROGRESS], home,
+        seen = list(pool.map(lambda command, home: watched([comparison.program, *for_long_words(command)], home,
                                                            command.pieces, False), commands, folders))
     for command, each in zip(commands, seen):
         expect_long(comparison, command, each)

@@ -8,8 +8,8 @@ import re
 from reporting import picture
 from reporting.characters import escaped
 from reporting.checks import faults_of_whole
-from reporting.page import (BLOCKED, COLUMNS, HEADINGS, NONE, OF_VERDICTS, RULES, STATES, SUMMARY, TIME, UNUSED,
-                            UNUSED_ROW, USED, Page)
+from reporting.page import (BLOCKED, COLUMNS, HEADINGS, NONE, OF_VERDICTS, ROW_CLASSES, RULES, STATES, SUMMARY, TIME,
+                            UNUSED, WARNINGS, Page)
 from reporting.tree import Element, tree_of
 
 # the lines that stand beside tables and the picture
@@ -93,6 +93,19 @@ class Parts:
             self.faults.append(f"no row in {name}")
         return text_rows(table)
 
+    def warnings(self):
+        """The texts of the list of warnings; none if the section says so."""
+        section = self.section(WARNINGS)
+        lists, items = list(section.elements("ul", "ol")), list(section.elements("li"))
+        if self.is_none(WARNINGS):
+            self.faults += ["a list of nothing"] * bool(lists or items)
+            return ()
+        if [each.tag for each in lists] != ["ul"] or not items or lists[0].own("li") != items:
+            self.faults.append("no list of warnings")
+        self.faults += [f"not escaped: {each.written()[:80]!r}" for each in items
+                        if each.written() != escaped(each.text())]
+        return tuple(each.text() for each in items)
+
     def summary(self):
         names, verdicts = self.tables(SUMMARY, 2)
         if OF_VERDICTS not in (verdicts.attributes.get("id"), *verdicts.classes()):
@@ -122,7 +135,7 @@ class Parts:
 
 def with_kind(row, cells):
     """The cells of a row of rules behind its class."""
-    return (" ".join(name for name in row.classes() if name in (USED, UNUSED_ROW)), *cells)
+    return (" ".join(name for name in row.classes() if name in ROW_CLASSES), *cells)
 
 
 def plain(rows):
@@ -149,7 +162,7 @@ def page_in(text):
     states = plain(parts.rows_of(STATES)) if STATES in parts.names else None
     for name in (RULES, UNUSED):
         faults += faults_of_texts(parts.section(name))
-    page = Page("".join(titles), plain(summary), plain(verdicts), bar, spans,
+    page = Page("".join(titles), parts.warnings(), plain(summary), plain(verdicts), bar, spans,
                 tuple(with_kind(*each) for each in rules), plain(unused), plain(blocked),
                 line_like(parts.section(BLOCKED), MORE), states)
     return page, root, faults + parts.faults

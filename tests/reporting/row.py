@@ -12,19 +12,28 @@ from showing import row as showing_row
 from showing.model import NAME
 from showing.row import BLOCK, BLOCKED, KNOCK, capture_of, several, text_of, verdicts_of
 
+# why a line did nothing for which packets would have to go one way
+NONE_IN, NONE_OUT = "not asked: no packet comes in on em0", "not asked: no packet goes out of em0"
+
 
 class Row(NamedTuple):
     """A question with parts of its page, or with what is said if it is refused; and how the lines begin that say what
-    was rewritten, where `{rules}` stands for the name of the ruleset's file."""
+    was rewritten, where `{rules}` stands for the name of the ruleset's file. The warnings on standard error are None if
+    they aren't written out."""
     name: str
     question: Question
     parts: dict = {}
     said: str = ""
     remarks: tuple = ()
+    warnings: tuple | None = None
 
     def outcome(self):
         """What is left of one that is refused."""
         return refused(self.said)
+
+    def err(self):
+        """What is said on standard error without `--quiet`, but for what was rewritten."""
+        return "".join(f"pfreplay: warning: {text}\n" for text in self.warnings).encode()
 
     def told(self, name=NAME):
         return [remark.format(rules=name).encode() for remark in self.remarks]

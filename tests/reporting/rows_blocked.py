@@ -16,8 +16,8 @@ def blocked(name, told, *flows, rules=BLOCK, more=""):
     return timed(name, rules, *((0, *each) for each in told), blocked=flows, more=more)
 
 
-def flow(packets, octets, words, first, rule="1", name="em0"):
-    return str(packets), str(octets), words, name, rule, str(first)
+def flow(packets, octets, words, first, rule="1", reason="rule", name="em0"):
+    return str(packets), str(octets), words, name, rule, reason, str(first)
 
 
 def of_packets():
@@ -55,37 +55,47 @@ def of_ways():
 
 
 def of_rules():
-    """The rule, or the reason, of the first packet of a flow."""
+    """The rule and the reason of the first packet of a flow."""
     rules = "\n\nblock in from { 10.0.0.0/8, 198.51.100.0/24 }\npass in\nblock out"
-    for said, rule in (("in block rule r=0 t=- s=-", "3"), ("in block rule r=1 t=- s=-", "3"),
-                       ("in return rule r=2 t=- s=-", "4"), ("out block rule r=3 t=- s=-", "5"),
-                       ("in block state-limit r=2 t=- s=-", "4"), ("in block state-insert r=2 t=- s=-", "4"),
-                       ("in block ip-option r=2 t=- s=-", "4"), ("in block ip-option r=- t=- s=-", "ip-option")):
-        yield blocked(f"blocked by {said}", [(KNOCK, said)], flow(1, 40, KNOCKED, 1, rule), rules=rules)
+    for said, rule, reason in (("in block rule r=0 t=- s=-", "3", "rule"), ("in block rule r=1 t=- s=-", "3", "rule"),
+                               ("in return rule r=2 t=- s=-", "4", "rule"), ("out block rule r=3 t=- s=-", "5", "rule"),
+                               ("in block state-limit r=2 t=- s=-", "4", "state-limit"),
+                               ("in block state-insert r=2 t=- s=-", "4", "state-insert"),
+                               ("in block ip-option r=2 t=- s=-", "4", "ip-option"),
+                               ("in block ip-option r=- t=- s=-", "", "ip-option")):
+        yield blocked(f"blocked by {said}", [(KNOCK, said)], flow(1, 40, KNOCKED, 1, rule, reason), rules=rules)
     yield blocked("two rules of a flow", [(KNOCK, "in block rule r=2 t=- s=-"), *[(KNOCK, BLOCKED)] * 3],
                   flow(4, 160, KNOCKED, 1, "4"), rules=rules)
+    yield blocked("two reasons of a flow", [(KNOCK, "in block ip-option r=- t=- s=-"), *[(KNOCK, BLOCKED)] * 3],
+                  flow(4, 160, KNOCKED, 1, "", "ip-option"), rules=rules)
+    yield blocked("two reasons of a flow, the other way round", [
+        (KNOCK, BLOCKED), (KNOCK, "in block state-limit r=2 t=- s=-"), (KNOCK, "in block ip-option r=- t=- s=-")],
+                  flow(3, 120, KNOCKED, 1, "3"), rules=rules)
     translated = "rdr on em0 all -> 10.0.0.1\nnat on em0 all -> em0\nblock in"
-    for said, rule in (("in block rule r=0 t=0 s=-", "3"), ("in block ip-option r=- t=0 s=-", "ip-option"),
-                       ("in block state-limit r=- t=0 s=-", "state-limit"),
-                       ("in block state-insert r=- t=0 s=-", "state-insert"),
-                       ("out block nat-exhausted r=- t=1 s=-", "nat-exhausted")):
-        yield blocked(f"translated and blocked by {said}", [(KNOCK, said)], flow(1, 40, KNOCKED, 1, rule),
+    for said, rule, reason in (("in block rule r=0 t=0 s=-", "3", "rule"),
+                               ("in block state-limit r=0 t=0 s=-", "3", "state-limit"),
+                               ("in block ip-option r=- t=0 s=-", "", "ip-option"),
+                               ("in block state-limit r=- t=0 s=-", "", "state-limit"),
+                               ("in block state-insert r=- t=0 s=-", "", "state-insert"),
+                               ("out block nat-exhausted r=- t=1 s=-", "", "nat-exhausted")):
+        yield blocked(f"translated and blocked by {said}", [(KNOCK, said)], flow(1, 40, KNOCKED, 1, rule, reason),
                       rules=translated)
     mismatch = [(KNOCK, "in pass rule r=2 t=- s=1"), (KNOCK, "in block state-mismatch r=2 t=- s=1")]
-    yield blocked("a packet that doesn't fit its state", mismatch, flow(1, 40, KNOCKED, 2, "4"), rules=rules)
+    yield blocked("a packet that doesn't fit its state", mismatch, flow(1, 40, KNOCKED, 2, "4", "state-mismatch"),
+                  rules=rules)
     nobody = [(KNOCK, "in pass nat-pass r=- t=0 s=1"), (KNOCK, "in block state-mismatch r=- t=0 s=1")]
     yield blocked("a packet that doesn't fit the state of a translation", nobody,
-                  flow(1, 40, KNOCKED, 2, "state-mismatch"), rules="rdr pass on em0 all -> 10.0.0.1\nblock")
+                  flow(1, 40, KNOCKED, 2, "", "state-mismatch"), rules="rdr pass on em0 all -> 10.0.0.1\nblock")
 
 
 def of_short():
     short = KNOCK[:30]
     yield blocked("packets that are too short", [(short, SHORT), (KNOCK, BLOCKED), (KNOCK[:9], SHORT), (b"", SKIPPED)],
-                  flow(2, 0, "short", 1, "short"), flow(1, 40, KNOCKED, 2))
+                  flow(2, 0, "short", 1, "", "short"), flow(1, 40, KNOCKED, 2))
     captures = [capture_of((1, short), (3, short)), capture_of((2, short))]
     lines = text_of(*(f"{number} {number} {SHORT} i=em{place}" for number, place in ((1, 0), (2, 1), (3, 0))))
     yield of_captures("short packets of two interfaces", BLOCK, captures, lines, parts={
-        "blocked": (flow(2, 0, "short", 1, "short"), flow(1, 0, "short", 2, "short", "em1"))})
+        "blocked": (flow(2, 0, "short", 1, "", "short"), flow(1, 0, "short", 2, "", "short", "em1"))})
 
 
 def of_interfaces():

@@ -1,8 +1,8 @@
 """Rows of the lines of rulesets: which packets count for them, and which did nothing."""
 
 from adapt.surroundings import NOTHING
-from reporting.row import (BLOCK, BLOCKED, KNOCK, Row, blocked_once, capture_of, of_captures, question_of, text_of,
-                           timed)
+from reporting.row import (BLOCK, BLOCKED, KNOCK, NONE_IN, NONE_OUT, Row, blocked_once, capture_of, of_captures,
+                           question_of, text_of, timed)
 from reporting.rows_summary import RETURNED, SKIP_ON
 from showing.rows_text import SHORT, SKIPPED
 from steps.translation_words import ANSWERED, ASKED
@@ -17,11 +17,12 @@ def lines(rules, *told):
                  for number, (each, text) in enumerate(zip(told, texts, strict=True), 1))
 
 
-def used(packets="1", octets="40", share="100.0 %"):
-    return "used", packets, octets, share
+def used(packets="1", octets="40", share="100.0 %", kind="block"):
+    """The class and the cells of a line for which packets count. Most have rules that block."""
+    return kind, packets, octets, share
 
 
-UNUSED = ("unused", *NOTHING_YET)
+UNUSED, PASSES, TRANSLATES = ("unused", *NOTHING_YET), used(kind="pass"), used(kind="used")
 
 
 def ruled(name, rules, packets, told, unused, **parts):
@@ -33,7 +34,7 @@ def ruled(name, rules, packets, told, unused, **parts):
 
 def of_statements():
     yield blocked_once("a rule on a line", BLOCK, rules_=lines(BLOCK, used(), UNUSED),
-                       unused=(("2", "1", "", "pass out"),))
+                       unused=(("2", "1", NONE_OUT, "pass out"),))
     yield blocked_once("a ruleset of one line", "block in", rules_=lines("block in", used()), unused=())
     for end, count in (("\n", 1), ("\n\n", 2), ("\n\n\n", 3), ("\n ", 2), ("\n#", 2)):
         text = f"block in{end}"
@@ -46,7 +47,7 @@ def of_statements():
     yield ruled("two rules of a list", listed, second, (used("2", "80"), None, UNUSED), (("3", "1", "", "pass"),))
     continued = "pass out\n block \\\n  in"
     yield ruled("a statement that is continued", continued, [(KNOCK, "in block rule r=1 t=- s=-")],
-                (UNUSED, used(), None), (("1", "1", "", "pass out"),))
+                (UNUSED, used(), None), (("1", "1", NONE_OUT, "pass out"),))
     macro = 'x = "{ tcp, udp }"\n\nset skip on lo0\ntable <t> { 10.0.0.1 }\nblock proto $x to port { 1 2 3 }\nblock'
     yield ruled("lines without rules, and a line of six", macro, [(KNOCK, "in block rule r=6 t=- s=-")],
                 (None, None, None, None, UNUSED, used()),
@@ -54,34 +55,36 @@ def of_statements():
     anchors = 'anchor "a" in {\nblock\n anchor on { em0 em1 } {\n  pass\n }\n}\nblock out'
     yield ruled("rules in anchors", anchors, [(KNOCK, "in block rule r=0 t=- s=-")],
                 (None, used(), None, UNUSED, None, None, UNUSED),
-                (("4", "2", "", "  pass"), ("7", "1", "", "block out")))
+                (("4", "2", "", "  pass"), ("7", "1", NONE_OUT, "block out")))
 
 
 def of_packets():
     """Which packets count for a line."""
     rules = "pass in\nblock out"
     out = "block in\npass out"
-    for name, said, told in (("that is refused", RETURNED, (used(), UNUSED)),
-                             ("without a rule", "in pass default r=- t=- s=-", (UNUSED, UNUSED)),
-                             ("with options, of a rule", "in block ip-option r=1 t=- s=-", (UNUSED, used())),
-                             ("with options, of none", "in block ip-option r=- t=- s=-", (UNUSED, UNUSED)),
-                             ("for which the rule has no room", "in block state-limit r=0 t=- s=-", (used(), UNUSED)),
-                             ("whose key is taken", "in block state-insert r=0 t=- s=-", (used(), UNUSED)),
-                             ("where nothing is filtered", SKIP_ON, (UNUSED, UNUSED))):
-        unused = tuple((str(number), "1", "", text) for number, (text, each) in enumerate(zip(rules.split("\n"), told),
-                                                                                          1) if each == UNUSED)
+    first, second, unasked = (("1", "1", "", "pass in"), ("2", "1", NONE_OUT, "block out"),
+                              ("1", "1", NONE_IN, "pass in"))
+    for name, said, told, unused in (
+            ("that is refused", RETURNED, (PASSES, UNUSED), (second,)),
+            ("without a rule", "in pass default r=- t=- s=-", (UNUSED, UNUSED), (first, second)),
+            ("with options, of a rule", "in block ip-option r=1 t=- s=-", (UNUSED, used()), (first,)),
+            ("with options, of none", "in block ip-option r=- t=- s=-", (UNUSED, UNUSED), (first, second)),
+            ("for which the rule has no room", "in block state-limit r=0 t=- s=-", (PASSES, UNUSED), (second,)),
+            ("whose key is taken", "in block state-insert r=0 t=- s=-", (PASSES, UNUSED), (second,)),
+            ("where nothing is filtered", SKIP_ON, (UNUSED, UNUSED), (unasked, second))):
         yield ruled(f"a packet {name}", rules, [(KNOCK, said)], told, unused)
     met = [(ASKED, "out pass rule r=1 t=- s=1"), (ANSWERED, "in pass state r=1 t=- s=1"),
            (KNOCK, "in block state-mismatch r=1 t=- s=1"), (KNOCK, BLOCKED)]
-    yield ruled("packets of a state", out, met, (used("1", "40", "25.0 %"), used("3", "96", "75.0 %")), ())
+    yield ruled("packets of a state", out, met, (used("1", "40", "25.0 %"), used("3", "96", "75.0 %", "pass")), ())
     yield ruled("a packet that is too short, and what isn't IPv4", out, [(KNOCK[:30], SHORT), (b"", SKIPPED)],
-                (UNUSED, UNUSED), (("1", "1", "", "block in"), ("2", "1", "", "pass out")))
+                (UNUSED, UNUSED), (("1", "1", NONE_IN, "block in"), ("2", "1", NONE_OUT, "pass out")))
     short = [(KNOCK, BLOCKED), *[(KNOCK, SKIP_ON)] * 2]
     yield ruled("a share of all packets", "block in", short, (used("1", "40", "33.3 %"),), ())
 
 
 # Translation
 
+NO_CONNECTION = "not asked: no connection goes out of em0"
 NAT = "nat on em0 from 10.0.0.0/8 to any -> em0"
 RDR = "rdr on em0 from any to em0 -> 10.0.0.1"
 
@@ -90,20 +93,22 @@ def of_translation():
     both = f"{NAT}\npass out\nblock in"
     yield ruled("a packet of two lines", both,
                 [(ASKED, "out pass rule r=0 t=0 s=1"), (KNOCK, "in block rule r=1 t=- s=-")],
-                (used("1", "28", "50.0 %"), used("1", "28", "50.0 %"), used("1", "40", "50.0 %")), ())
+                (used("1", "28", "50.0 %", "used"), used("1", "28", "50.0 %", "pass"), used("1", "40", "50.0 %")), ())
     passing = f"{NAT}\nrdr pass on em0 all -> 10.0.0.1\nbinat on em0 from 10.0.0.9 to any -> 192.0.2.9\npass"
     yield ruled("a line of translation alone", passing, [(KNOCK, "in pass nat-pass r=- t=1 s=1")],
-                (UNUSED, used(), UNUSED, UNUSED),
-                (("1", "1", "", NAT), ("3", "1", "", "binat on em0 from 10.0.0.9 to any -> 192.0.2.9"),
-                 ("4", "1", "", "pass")))
+                (UNUSED, TRANSLATES, UNUSED, UNUSED),
+                (("1", "1", NO_CONNECTION, NAT), ("3", "1", "", "binat on em0 from 10.0.0.9 to any -> 192.0.2.9"),
+                 ("4", "1", "not asked: each packet on em0 has a state or isn't filtered", "pass")))
     yield ruled("no port is free", both, [(ASKED, "out block nat-exhausted r=- t=0 s=-")],
-                (used("1", "28"), UNUSED, UNUSED), (("2", "1", "", "pass out"), ("3", "1", "", "block in")),
-                blocked=(("1", "28", "udp 10.0.0.5:1000 > 198.51.100.7:53", "em0", "nat-exhausted", "1"),))
+                (used("1", "28", kind="used"), UNUSED, UNUSED),
+                (("2", "1", "not asked: each packet that goes out of em0 has a state or isn't filtered", "pass out"),
+                 ("3", "1", NONE_IN, "block in")),
+                blocked=(("1", "28", "udp 10.0.0.5:1000 > 198.51.100.7:53", "em0", "", "nat-exhausted", "1"),))
     yield ruled("no filter rule decides on a packet that is translated", f"{RDR}\nblock out",
-                [(KNOCK, "in pass default r=- t=0 s=1")], (used(), UNUSED), (("2", "1", "", "block out"),))
+                [(KNOCK, "in pass default r=- t=0 s=1")], (TRANSLATES, UNUSED), (("2", "1", NONE_OUT, "block out"),))
     listed = 'rdr on em0 from any to em0 port { 80, 81 } -> 10.0.0.1\nblock in'
     yield ruled("two rules of translation on a line", listed, [(KNOCK, "in block rule r=0 t=1 s=-")],
-                (used(), used()), ())
+                (TRANSLATES, used()), ())
     yield ruled("two rules of translation that do nothing", listed, [(KNOCK, BLOCKED)], (UNUSED, used()),
                 (("1", "2", "", listed.split("\n", maxsplit=1)[0]),))
 
@@ -113,7 +118,8 @@ def of_no_rules():
     rules = (f"no nat on em0 from 10.0.0.1 to any\n{NAT}\nno rdr on em0 from {{ 10.0.0.1 10.0.0.2 }} to any\n"
              f"no binat all\n{BLOCK}")
     yield ruled("rules that translate nothing", rules, [(KNOCK, BLOCKED)],
-                (UNUSED, UNUSED, UNUSED, UNUSED, used(), UNUSED), (("2", "1", "", NAT), ("6", "1", "", "pass out")))
+                (UNUSED, UNUSED, UNUSED, UNUSED, used(), UNUSED),
+                (("2", "1", NO_CONNECTION, NAT), ("6", "1", NONE_OUT, "pass out")))
     yield ruled("rules that translate nothing alone", "no nat all\nno rdr all\nblock in", [(KNOCK, BLOCKED)],
                 (UNUSED, UNUSED, used()), ())
 
@@ -144,19 +150,19 @@ def of_shadows():
              (("3", "1", "shadowed by 1", "block in"),))):
         text_lines = rules.split("\n")
         numbers = {int(number) for number, *_ in told}
-        rows = [used() if number == 1 else UNUSED if number in numbers else None
+        rows = [PASSES if number == 1 else UNUSED if number in numbers else None
                 for number in range(1, len(text_lines) + 1)]
         yield ruled(f"shadowed {name}", rules, [passing], rows, told)
     behind = "pass in no state\nblock in"
     yield ruled("shadowed by the line behind", behind, [(KNOCK, "in block rule r=1 t=- s=-")], (UNUSED, used()),
                 (("1", "1", "shadowed by 2", "pass in no state"),))
     yield ruled("a line that is shadowed, and told of a packet", behind, [(KNOCK, "in pass rule r=0 t=- s=-")],
-                (used(), UNUSED), (("2", "1", "", "block in"),))
+                (PASSES, UNUSED), (("2", "1", "", "block in"),))
     yield ruled("shadowed by a rule that does nothing either", behind, [(KNOCK[:9], SHORT)],
-                (UNUSED, UNUSED), (("1", "1", "shadowed by 2", "pass in no state"), ("2", "1", "", "block in")))
+                (UNUSED, UNUSED), (("1", "1", "shadowed by 2", "pass in no state"), ("2", "1", NONE_IN, "block in")))
     translated = f"{NAT}\nblock in quick\nblock in"
     yield ruled("a line of translation beside one that is shadowed", translated, [(KNOCK, "in block rule r=0 t=- s=-")],
-                (UNUSED, used(), UNUSED), (("1", "1", "", NAT), ("3", "1", "shadowed by 2", "block in")))
+                (UNUSED, used(), UNUSED), (("1", "1", NO_CONNECTION, NAT), ("3", "1", "shadowed by 2", "block in")))
 
 
 # Several interfaces, and rulesets that are adapted
@@ -166,7 +172,7 @@ def of_interfaces():
     captures = [capture_of((1, KNOCK)), capture_of((2, ASKED))]
     told = text_of("1 1 in block rule r=0 t=- s=- i=em0", "2 2 out pass rule r=2 t=- s=2 i=em1")
     yield of_captures("rules of two interfaces", rules, captures, told, parts={
-        "rules": lines(rules, used("1", "40", "50.0 %"), used("1", "28", "50.0 %")), "unused": ()})
+        "rules": lines(rules, used("1", "40", "50.0 %"), used("1", "28", "50.0 %", "pass")), "unused": ()})
 
 
 def of_adapted():
@@ -174,12 +180,12 @@ def of_adapted():
     scrubbing = "scrub in all\nblock in\npass out"
     question = question_of(scrubbing, capture_of(KNOCK), text_of(f"1 0 {BLOCKED}"), surroundings=NOTHING)
     yield Row("an adapted ruleset", question, {"rules": lines(scrubbing, None, used(), UNUSED),
-                                               "unused": (("3", "1", "", "pass out"),)},
+                                               "unused": (("3", "1", NONE_OUT, "pass out"),)},
               remarks=("{rules}:1:1: warning: scrub",))
     spoofed = "antispoof quick for em0\npass in"
     question = question_of(spoofed, capture_of(KNOCK), text_of("1 0 in pass rule r=2 t=- s=1"), surroundings=NOTHING)
     yield Row("a statement that becomes rules on a line each", question, {
-        "rules": lines(spoofed, UNUSED, used()), "unused": (("1", "2", "", "antispoof quick for em0"),)},
+        "rules": lines(spoofed, UNUSED, PASSES), "unused": (("1", "2", "", "antispoof quick for em0"),)},
         remarks=("{rules}:1:1: note: antispoof",))
     written = "pass in from 10/8 # <&>\nblock in"
     question = question_of(written, capture_of(KNOCK), text_of("1 0 in block rule r=1 t=- s=-"), surroundings=NOTHING)

@@ -3,7 +3,8 @@
 from captures.packets import ETHER_ARP, LINKTYPE_ETHERNET, UDP, ethernet, ipv4, udp
 from reporting.model import Question
 from reporting.page import NONE
-from reporting.row import BLOCK, BLOCKED, KNOCK, Row, capture_of, of_captures, one, question_of, text_of, timed
+from reporting.row import (BLOCK, BLOCKED, KNOCK, NONE_IN, NONE_OUT, Row, capture_of, of_captures, one, question_of,
+                           text_of, timed)
 from runs.case import INSIDE, Case
 from showing.model import Question as Shown
 from showing.row import also_of
@@ -89,7 +90,7 @@ def of_times():
 def of_no_packets():
     empty = {"verdicts": verdicts(), "bar": NONE, "spans": (), "blocked": (), "more": "",
              "rules": (("unused", "1", "0", "0", "0.0 %", "block in"), ("unused", "2", "0", "0", "0.0 %", "pass out")),
-             "unused": (("1", "1", "", "block in"), ("2", "1", "", "pass out"))}
+             "unused": (("1", "1", NONE_IN, "block in"), ("2", "1", NONE_OUT, "pass out"))}
     yield Row("no packet", question_of(BLOCK, capture_of(), b""), {"summary": (*FILES, ("Packets", "0")), **empty})
     yield Row("no packet, cut", question_of(BLOCK, capture_of(KNOCK)[:-1], b""),
               {"summary": (*FILES, ("Packets", "0, cut")), **empty})
@@ -131,7 +132,7 @@ def of_names():
         yield Row(f"interfaces called {first!r} and {second!r}", Question(Shown(case, lines)), {
             "summary": (("Ruleset", "rules"), (f"Capture on {first}", "capture"), (f"Capture on {second}", "capture1"),
                         ("Packets", "2"), ("From", "1970-01-01 00:00:01"), ("To", "1970-01-01 00:00:02")),
-            "blocked": (("1", "40", flow, first, "1", "1"), ("1", "40", flow, second, "1", "2"))})
+            "blocked": (("1", "40", flow, first, "1", "rule", "1"), ("1", "40", flow, second, "1", "rule", "2"))})
 
 
 def rows():

@@ -1,6 +1,6 @@
 """Rows of rulesets whose bytes aren't those of a page: marks of HTML, bytes that are no character, ends of lines."""
 
-from reporting.row import BLOCKED, KNOCK, one
+from reporting.row import BLOCKED, KNOCK, NONE_OUT, one
 
 BAD = "\ufffd"
 # comments, and what is shown of them
@@ -52,47 +52,47 @@ USED, EMPTY = ("1", "40", "100.0 %"), ("", "", "")
 def of_comments():
     for octets, shown in COMMENTS:
         yield one(f"the comment {octets!r}", octets + b"\nblock in\n", KNOCK, BLOCKED, unused=(), rules_=(
-            row("", 1, *EMPTY, shown), row("used", 2, *USED, "block in")))
+            row("", 1, *EMPTY, shown), row("block", 2, *USED, "block in")))
     every = bytes(range(256)).replace(b"\n", b"")
     yield one("each byte", b"#" + every + b"\nblock in", KNOCK, BLOCKED, rules_=(
         row("", 1, *EMPTY, "#" + "".join(chr(byte) if 32 <= byte < 127 or byte == 9 else BAD for byte in every)),
-        row("used", 2, *USED, "block in")))
+        row("block", 2, *USED, "block in")))
 
 
 def of_statements():
     for octets, shown in STATEMENTS:
         yield one(f"the statement {octets!r}", octets, KNOCK, BLOCKED, unused=(),
-                  rules_=(row("used", 1, *USED, shown),))
+                  rules_=(row("block", 1, *USED, shown),))
         # the same line where it does nothing
         yield one(f"the statement {octets!r}, which does nothing", octets + b"\nblock", KNOCK,
                   "in block rule r=1 t=- s=-", rules_=(row("unused", 1, "0", "0", "0.0 %", shown),
-                                                       row("used", 2, *USED, "block")))
+                                                       row("block", 2, *USED, "block")))
     macro = b'm = "</td><script>"\nblock in'
     yield one("a macro of marks", macro, KNOCK, BLOCKED, rules_=(
-        row("", 1, *EMPTY, 'm = "</td><script>"'), row("used", 2, *USED, "block in")))
+        row("", 1, *EMPTY, 'm = "</td><script>"'), row("block", 2, *USED, "block in")))
 
 
 def of_ends():
     """Ends of lines as in DOS, and a text that ends in the midst of one."""
     dos = b"block in\r\n\r\npass out\r\n"
     yield one("lines as in DOS", dos, KNOCK, BLOCKED, rules_=(
-        row("used", 1, *USED, f"block in{BAD}"), row("", 2, *EMPTY, BAD),
-        row("unused", 3, "0", "0", "0.0 %", f"pass out{BAD}")), unused=(("3", "1", "", f"pass out{BAD}"),))
+        row("block", 1, *USED, f"block in{BAD}"), row("", 2, *EMPTY, BAD),
+        row("unused", 3, "0", "0", "0.0 %", f"pass out{BAD}")), unused=(("3", "1", NONE_OUT, f"pass out{BAD}"),))
     yield one("a carriage return at the end", b"block in\n\r", KNOCK, BLOCKED, rules_=(
-        row("used", 1, *USED, "block in"), row("", 2, *EMPTY, BAD)))
+        row("block", 1, *USED, "block in"), row("", 2, *EMPTY, BAD)))
     yield one("a comment without its end", b"block in\n# the end", KNOCK, BLOCKED, rules_=(
-        row("used", 1, *USED, "block in"), row("", 2, *EMPTY, "# the end")))
+        row("block", 1, *USED, "block in"), row("", 2, *EMPTY, "# the end")))
     yield one("newlines before", b"\n\n\nblock in", KNOCK, BLOCKED, rules_=(
-        row("", 1, *EMPTY, ""), row("", 2, *EMPTY, ""), row("", 3, *EMPTY, ""), row("used", 4, *USED, "block in")))
+        row("", 1, *EMPTY, ""), row("", 2, *EMPTY, ""), row("", 3, *EMPTY, ""), row("block", 4, *USED, "block in")))
 
 
 def of_lengths():
     long = "#" + "<&\u00e9\">'" * 20000
     yield one("a very long line", long.encode() + b"\nblock in", KNOCK, BLOCKED, rules_=(
-        row("", 1, *EMPTY, long), row("used", 2, *USED, "block in")))
+        row("", 1, *EMPTY, long), row("block", 2, *USED, "block in")))
     many = b"#\n" * 5000 + b"block in\n"
     yield one("many lines", many, KNOCK, BLOCKED, rules_=(
-        *(row("", number, *EMPTY, "#") for number in range(1, 5001)), row("used", 5001, *USED, "block in")))
+        *(row("", number, *EMPTY, "#") for number in range(1, 5001)), row("block", 5001, *USED, "block in")))
     # of more rules than 2048 none is looked at whether it is shadowed
     for count, why in ((300, "shadowed by 2"), (2100, "")):
         listed = f"block in proto tcp to port {{ {' '.join(map(str, range(1, count + 1)))} }}"

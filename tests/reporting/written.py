@@ -1,9 +1,9 @@
 """Writes a page that says some values, as the command might. What reads pages is compared with it, and nothing else."""
 
 from reporting.characters import escaped
-from reporting.page import (BLOCKED, COLUMNS, HEADINGS, NONE, OF_VERDICTS, RULES, STATES, SUMMARY, TIME, UNUSED)
+from reporting.page import (BLOCKED, COLUMNS, HEADINGS, NONE, OF_VERDICTS, RULES, STATES, SUMMARY, TIME, UNUSED,
+                            VERDICTS, WARNINGS)
 from reporting.picture import COUNTS
-from reporting.page import VERDICTS
 
 WIDTH, FULL = 8, 200
 
@@ -50,6 +50,11 @@ def picture(page):
     return element("p", page.bar) + element("svg", groups, viewBox=f"0 0 {len(page.spans) * WIDTH} {FULL}")
 
 
+def items(texts):
+    """A list, or the paragraph that stands for none."""
+    return element("ul", "\n".join(element("li", escaped(each)) for each in texts)) if texts else element("p", NONE)
+
+
 def names_table(rows):
     return element("table", "".join(element("tr", element("th", escaped(name)) + element("td", escaped(value)))
                                     for name, value in rows))
@@ -59,7 +64,8 @@ def sections(page):
     """What stands in each part."""
     kinds, rules = [kind for kind, *_ in page.rules], [row for _, *row in page.rules]
     more = element("p", page.more) if page.more else ""
-    found = {SUMMARY: names_table(page.summary) + table(OF_VERDICTS, page.verdicts),
+    found = {WARNINGS: items(page.warnings),
+             SUMMARY: names_table(page.summary) + table(OF_VERDICTS, page.verdicts),
              TIME: picture(page) if page.spans else element("p", NONE),
              RULES: table(RULES, rules, kinds), UNUSED: some(UNUSED, page.unused),
              BLOCKED: some(BLOCKED, page.blocked) + more}

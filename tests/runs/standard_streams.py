@@ -62,9 +62,10 @@ def piped(comparison, case, names, capture):
 
 
 def write_all(writing, octets):
-    """Writes into a pipe, whose reader may go away."""
+    """Writes all of it into a pipe, whose reader may go away. A write of the system's may end in the middle, if the
+    process is stopped and goes on."""
     try:
-        with open(writing, "wb", buffering=0) as file:
+        with open(writing, "wb") as file:
             file.write(octets)
     except BrokenPipeError:
         pass

@@ -7,7 +7,7 @@ from adapt.asking import begins_so
 from changes.asking import adapting, also_of
 from runs.model import NONE
 from showing.model import COUNT, NAME, TEXT
-from telling.model import network_words
+from telling.words import network_words
 
 CAPTURE, LINES = "capture", "lines"
 STANDARD = "-"
@@ -28,7 +28,7 @@ def paired(flags):
 def asking_words(asked, form=TEXT):
     """The flags that say which packets are asked for, and how they are printed."""
     words = {"only": asked.only and ",".join(asked.only), "rule": asked.rule, "line": asked.line,
-             "host": asked.host and network_words(asked.host)}
+             "host": asked.host and network_words(asked.host), "port": asked.port, "proto": asked.proto}
     printing = ["--count"] if form == COUNT else [] if form == TEXT else ["--format", form]
     return [*(word for flag, value in words.items() if value is not None for word in (f"--{flag}", str(value))),
             *["--logged"] * asked.logged, *printing]

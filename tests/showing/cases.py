@@ -13,6 +13,7 @@ from captures.model import Refused
 from changes import edits
 from changes.cases import case_of_run, some_run, without_inside
 from rulesets.tree import Network
+from rulesets.words import PROTOCOLS, SERVICES
 from runs.case import Case
 from showing.damage import KINDS
 from showing.model import COUNT, JSON, PFLOG, TEXT, Asked, Question
@@ -27,6 +28,9 @@ LOGS, MOVES = (0, 1, 2, 4), (0, 0, 1, 2)
 BITS = (32, 32, 32, 31, 30, 24, 16, 8, 1, 0)
 OTHER_NUMBERS = (0, 1, 99, 65535)
 OTHER_HOSTS = (0x0A000005, 0xC6336407, 0xC0000201, 0)
+OTHER_PORTS, OTHER_PROTOCOLS = (0, 22, 53, 80, 65535), (0, 1, 6, 17, 47, 255)
+# what stands before a number of the command line
+ZEROS = ("", "", "", "0", "000")
 
 
 class Drawn(NamedTuple):
@@ -83,11 +87,32 @@ def some_rule(draw, rules):
     return draw.randrange(len(rules.filter)) if rules.filter and draw.random() < 0.9 else draw.choice(OTHER_NUMBERS)
 
 
+def some_word(draw, number, names):
+    """A number as a word: by one of its names, if it has any, or in digits."""
+    named = [name for name, each in names.items() if each == number]
+    return draw.choice(named) if named and draw.random() < 0.5 else f"{draw.choice(ZEROS)}{number}"
+
+
+def some_port(draw, packets):
+    """A port of a packet, or another one; or the name of any service."""
+    if draw.random() < 0.2:
+        return draw.choice(sorted(SERVICES))
+    ports = [port for each in packets if isinstance(each.seen(), Packet) for port in each.seen().ports or ()]
+    return some_word(draw, draw.choice(ports if ports and draw.random() < 0.9 else OTHER_PORTS), SERVICES)
+
+
+def some_protocol(draw, packets):
+    """The protocol of a packet, or another one."""
+    protocols = [each.seen().protocol for each in packets if isinstance(each.seen(), Packet)]
+    return some_word(draw, draw.choice(protocols if protocols and draw.random() < 0.9 else OTHER_PROTOCOLS), PROTOCOLS)
+
+
 def some_asked(draw, question):
     """Flags that ask for some packets of a question whose ruleset and captures are accepted."""
     packets, rules = question.joined().packets, question.rules()
     makes = {"only": lambda: tuple(draw.sample(VERDICTS, draw.randint(1, 3))), "rule": lambda: some_rule(draw, rules),
-             "line": lambda: some_line(draw, rules), "host": lambda: some_host(draw, packets), "logged": lambda: True}
+             "line": lambda: some_line(draw, rules), "host": lambda: some_host(draw, packets), "logged": lambda: True,
+             "port": lambda: some_port(draw, packets), "proto": lambda: some_protocol(draw, packets)}
     return Asked(**{name: make() for name, make in makes.items() if draw.random() < ASKING})
 
 

@@ -80,7 +80,8 @@ def good_lines(comparison):
 # Faults
 
 WITH_FAULTS = {"some packets": ONE, "JSON": of_six(JSON), "pflog": of_six(PFLOG), "a number of packets": of_six(COUNT),
-               "flags": of_six(only=("pass", "block"), line=3, logged=True), "two captures": TWO,
+               "flags": of_six(only=("pass", "block"), line=3, logged=True, port="ssh", proto="tcp"),
+               "two captures": TWO,
                "a ruleset that is refused": BROKEN, "a capture that is cut": CUT, "a line that is cut": LACKING}
 
 

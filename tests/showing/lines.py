@@ -13,8 +13,9 @@ FILES = (CAPTURE, LINES, NAME)
 FLAGS = {"--interface": "em0", "--address": "192.0.2.1/24"}
 FORMS = {flag: ALL_FORMS[flag] for flag in (*FLAGS, "--also")}
 # what the help shows, among other things
-HELPED = (b"<CAPTURE>", b"<VERDICTS>", b"<RULES>", b"--only", b"--rule", b"--line", b"--host", b"--logged", b"--count",
-          b"--format", b"--adapt", *(f"{flag} <{form}>".encode() for flag, form in FORMS.items()))
+HELPED = (b"<CAPTURE>", b"<VERDICTS>", b"<RULES>", b"--only", b"--rule", b"--line", b"--host", b"--port <PORT>",
+          b"--proto <PROTO>", b"--logged", b"--count", b"--format", b"--adapt",
+          *(f"{flag} <{form}>".encode() for flag, form in FORMS.items()))
 BAD_VALUES = {flag: runs.lines.BAD_VALUES[flag] for flag in FLAGS}
 # values of the flags that ask for packets, of which the form isn't told here
 BAD_ASKING = {
@@ -27,8 +28,18 @@ BAD_ASKING = {
                "10.0.0.5:80"),
     "--format": ("", "Text", "TEXT", "xml", "pcap", "text,json", "text|json", "json ", " json", "count", "j"),
 }
+# words that are no number and no name for one, each with its flag in the line that says so
+NO_NUMBERS = ("", "x", "-1", "+1", "-0", "1.0", "0x1", " 1", "1 ", "1,2", "-", "any", "1:2", "1-2", "!1", "= 1", "$p",
+              "{", "99999999999", "18446744073709551616", "9" * 300, "0" * 300 + "9" * 6)
+BAD_WORDS = {
+    "--port": (*NO_NUMBERS, "65536", "065536", "SSH", "Ssh", "http ", " http", "https,http", "gopher", "imaps", "tcp",
+               "icmp", "echoreq", "port", "80/tcp", "*", "http:https"),
+    "--proto": (*NO_NUMBERS, "256", "0256", "65536", "TCP", "Tcp", "tcp ", " tcp", "tcp,udp", "tcp/udp", "ospf", "sctp",
+                "ip", "ipv6", "icmp6", "http", "ssh", "echoreq", "proto", "all"),
+}
 # a value of each of them, and the flags without
-GOOD_ASKING = {"--only": "pass", "--rule": "0", "--line": "1", "--host": "10.0.0.0/8", "--format": "json"}
+GOOD_ASKING = {"--only": "pass", "--rule": "0", "--line": "1", "--host": "10.0.0.0/8", "--port": "80", "--proto": "tcp",
+               "--format": "json"}
 BARE = ("--logged", "--count")
 # flags of other commands, and of none
 UNKNOWN = ("--inside=10.0.0.0/8", "--mac=em0=02:00:00:00:00:01", "--tap=stack", "--seed=00", "--batch=7", "--workers=0",
@@ -43,11 +54,13 @@ def show_line(flags, *more):
 
 def bad_values():
     """One value each that isn't of its form, in both spellings; the flag is named."""
-    for flag, values in {**BAD_VALUES, "--also": tuple(BAD_ALSO), **BAD_ASKING}.items():
+    for flag, values in {**BAD_VALUES, "--also": tuple(BAD_ALSO), **BAD_ASKING, **BAD_WORDS}.items():
         others = {name: value for name, value in FLAGS.items() if name != flag}
         for value in values:
             if flag in BAD_ASKING:
                 said = (b"invalid value '", f"' for '{flag} <".encode())
+            elif flag in BAD_WORDS:
+                said = (f"invalid value '{value}' for '{flag} <{flag[2:].upper()}>'".encode(),)
             else:
                 part = BAD_ALSO[value] if flag == "--also" else value
                 said = (f"invalid value '{part}' for '{flag} <{FORMS[flag]}>'".encode(),)
@@ -130,5 +143,11 @@ def good():
                           ("010.000.0.05/032", (0x0A000005, 32)), ("0.0.0.0/0", (0, 0)), ("198.51.100.9/24", (
                               0xC6336409, 24)), ("255.255.255.255", (0xFFFFFFFF, 32))):
         yield (*FILES, *flags, "--host", word), {"host": Network(*network)}, TEXT
+    for word in ("22", "ssh", "0022", "0", "65535", "00065535", "https"):
+        yield (*FILES, *flags, "--port", word), {"port": word}, TEXT
+        yield (f"--port={word}", *FILES, *flags, "--proto=tcp"), {"port": word, "proto": "tcp"}, TEXT
+    for word in ("6", "tcp", "006", "0", "255", "0255", "udp"):
+        yield (*FILES, *flags, "--proto", word), {"proto": word}, TEXT
+        yield (*FILES, f"--proto={word}", *flags, "--port", "53", "--count"), {"proto": word, "port": "53"}, COUNT
     yield ("--logged", "--only=pass,block", *FILES, "--host=10.0.0.0/8", *flags, "--line", "2", "--format", "json"), {
         "logged": True, "only": ("pass", "block"), "host": Network(0x0A000000, 8), "line": 2}, JSON

@@ -14,6 +14,7 @@ from captures.model import Refused
 from changes import adapted
 from expansions.hosts import interface_of
 from rulesets.tree import Network
+from rulesets.words import PROTOCOLS, SERVICES
 from runs.case import Case
 from runs.model import Outcome, refused
 from showing import pflog
@@ -33,12 +34,15 @@ NAME = "rules"
 
 
 class Asked(NamedTuple):
-    """Which packets are asked for: those for which all holds that isn't None."""
+    """Which packets are asked for: those for which all holds that isn't None. Port and protocol are the words of the
+    command line, names or numbers."""
     only: tuple | None = None
     rule: int | None = None
     line: int | None = None
     host: Network | None = None
     logged: bool = False
+    port: str | None = None
+    proto: str | None = None
 
 
 class Question(NamedTuple):
@@ -77,6 +81,22 @@ def holds_host(network, packet):
     return seen not in WITHOUT_ENDS and any(network_holds(network, end) for end in (seen.source, seen.destination))
 
 
+def number_of(word, names):
+    """The number that a word of the command line stands for."""
+    return names[word] if word in names else int(word)
+
+
+def has_port(word, packet):
+    """Whether either end has a port: those of TCP and UDP have, but not in parts of packets."""
+    seen = packet.seen()
+    return seen not in WITHOUT_ENDS and number_of(word, SERVICES) in (seen.ports or ())
+
+
+def has_protocol(word, packet):
+    seen = packet.seen()
+    return seen not in WITHOUT_ENDS and number_of(word, PROTOCOLS) == seen.protocol
+
+
 def lines_named(said, rules):
     """The lines on which the rules of a line of verdicts stand."""
     named = (made[number] for number, made in ((said.rule, rules.filter), (said.translation, rules.translation))
@@ -95,6 +115,8 @@ def is_asked_for(asked, packet, said, rules):
             and (asked.rule is None or said.rule == asked.rule)
             and (asked.line is None or asked.line in lines_named(said, rules))
             and (asked.host is None or holds_host(asked.host, packet))
+            and (asked.port is None or has_port(asked.port, packet))
+            and (asked.proto is None or has_protocol(asked.proto, packet))
             and (not asked.logged or is_logged(said, rules)))
 
 

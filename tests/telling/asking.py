@@ -4,12 +4,14 @@ import hashlib
 import re
 
 from runs.model import Outcome
-from telling.model import Asked
+from telling.model import TEXT, Asked
 
 # the name of the file of counters
 COUNTERS = "told"
 # what stands before a rule
 NUMBERED = re.compile(rb"^(@[0-9]+ L)[0-9]+ ")
+# the line of a rule in JSON; in a string no quotation mark stands alone
+LINE_NAMED = re.compile(rb',"line":[0-9]+')
 # what stands behind a rule that is shadowed, without counters; a label ends with a quote
 MARK = re.compile(rb"  # shadowed by @[0-9]+$")
 # the ends of the lines of rules that are shadowed, with counters or without, and of those for which no packet counts
@@ -34,7 +36,7 @@ def words_of(comparison, asked):
         file = comparison.folder / COUNTERS
         file.write_bytes(asked.counters)
         words += ["--counters", file]
-    return words
+    return words if asked.form == TEXT else [*words, "--format", asked.form]
 
 
 def answered(comparison, asked, words=(), **how):
@@ -44,7 +46,7 @@ def answered(comparison, asked, words=(), **how):
 
 def checked(comparison, asked):
     """What the command `check` leaves for the same ruleset."""
-    _, *words = words_of(comparison, asked._replace(counters=None))
+    _, *words = words_of(comparison, asked._replace(counters=None, form=TEXT))
     return comparison.execute(["check", *words])
 
 
@@ -80,7 +82,7 @@ def printed_again(printed, tables):
 
 def without_lines(printed):
     """Numbers and words alone."""
-    return [NUMBERED.sub(rb"\1 ", line) for line in lines_in(printed)]
+    return [LINE_NAMED.sub(b"", NUMBERED.sub(rb"\1 ", line)) for line in lines_in(printed)]
 
 
 def check_again(text, filters, translations):

@@ -1,7 +1,7 @@
 """Rulesets that are drawn by a seed, by the writers of other comparisons. They are the same every time.
 
 Many are given with the counters of a run, which are drawn too. Some of these have damage, or are those of another
-ruleset.
+ruleset. One in four is to be printed as JSON.
 """
 
 import random
@@ -22,7 +22,7 @@ from runs.case import EXAMPLES
 from runs.filter_cases import MANY_RULES
 from steps.replay import ruleset_of
 from telling import shadow_texts
-from telling.model import MOST_COUNT, Asked
+from telling.model import JSON, MOST_COUNT, TEXT, Asked
 from telling.row import EM0, EM1
 
 SEED = 20261209
@@ -122,6 +122,18 @@ KINDS = {"of the writer": written_text, "of the writer, with faults": faulty_tex
 TURNS = (*KINDS, "of the writer", "of the writer", "of filter runs", "of translation runs")
 
 
+# How they are printed
+
+# how many cases, and runs, there are for each that is printed as JSON
+JSON_EACH = 4
+
+
+def form_at(number):
+    """The form in which the rules of a case or of a run are printed, by its number. As the kinds of cases go by turns
+    too, the place among as many is another one each time."""
+    return JSON if (number + number // JSON_EACH) % JSON_EACH == 0 else TEXT
+
+
 # Counters
 
 def some_counts(draw):
@@ -197,4 +209,5 @@ def case_at(number):
     damage = NO_COUNTERS
     if counts is not None:
         asked, damage = with_counters(draw, asked, counts)
-    return Case(f"case {number}, {kind}, {damage}", asked, kind, damage)
+    form = form_at(number)
+    return Case(f"case {number}, {kind}, {form}, {damage}", asked._replace(form=form), kind, damage)

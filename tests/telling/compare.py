@@ -4,105 +4,37 @@
 
 in the folder `tests`. `--drawn` and `--runs` tell how many drawn rulesets and how many random runs there are. What is
 printed of a ruleset is given again, as a ruleset: the same rules have to be printed, and `check` has to count as many.
+What is printed as JSON is read by Python, and has to mean the same as the lines of text.
 """
 
 import argparse
 import sys
 from collections import Counter
-from functools import partial
 from pathlib import Path
 
 sys.dont_write_bytecode = True
 
 import building
-from expansions.hosts import OWN, interface_of
-from expansions.hostile import addresses, nested
-from faults.command import ends_lawfully
+from expansions.hosts import interface_of
 from runs import model as runs_model
-from runs.check_cases import FITTING, MOST_TEXT, RULES
-from runs.model import Outcome, cannot_open, failed
+from runs.check_cases import FITTING, RULES
+from runs.model import Outcome
 from standby.after_runs import ALONE
 from standby.cases import case_at as run_at
 from standby.many import in_parts, in_processes, told
 from steps.replay import ruleset_of
-from telling import asking, cases, deciding, judged, kinds, lines, model, rows, rows_adapted, rows_counters
-from telling.asking import answered, checked, interface_words, words_of
-from telling.model import Asked
-from telling.row import ONE, TWO
+from telling import asking, cases, deciding, files, judged, kinds, lines, model, rows, rows_adapted
+from telling.asking import answered, checked, interface_words
+from telling.expecting import expect_told, expect_told_by_model
+from telling.model import FORMS, TEXT, Asked
+from telling.row import ONE, TOGETHER, TOGETHER_COUNTERS, TWO
 from workers.choices import run_of
-from workers.pipes import without_reader
 
 # where no other numbers are told, and those of the models alone
 DRAWN, RUNS = 3000, 200
 MODEL_DRAWN, MODEL_RUNS = 3000, 60
 # how many cases there are at most for each time that a thing comes up
 DRAWN_EACH, RUNS_EACH = 400, 100
-UNWRITTEN = failed("write failed: standard output")
-MANY_HOSTS, SOME_HOSTS = 40, 12
-
-
-def rules_between(hosts):
-    """A ruleset with a rule for each pair of this number of hosts."""
-    return (f"table <t>\npass from {{ {addresses(hosts)} }} to {{ {addresses(hosts)} }}\nanchor quick {{\n"
-            "block from <t>\n}\n").encode()
-
-
-# so many lines are written in several pieces
-MANY = rules_between(MANY_HOSTS)
-OF_EACH_KIND = (b't = "{ tcp udp }"\ntable <t> { 10.0.0.1 }\nno binat all\nrdr -> em0 port 5\n'
-                b'anchor on { em0 em1 } {\npass proto $t from <t> to 10.0.0.0/8 label "a" keep state (max 5)\n}\n')
-TOGETHER = b"block from self\npass to em1 label \"web\"\n"
-TOGETHER_COUNTERS = b"filter 0 5 2 56\nfilter 1 5 3 84\ntotal 5 3 2 0 0\n"
-
-
-# What was printed, as a ruleset
-
-def tables_of(ruleset):
-    """The tables of the text."""
-    return [name for name in ruleset.hosts.tables if name != OWN]
-
-
-def bare(outcome):
-    """What was printed without marks: tables are empty when it is given again, so fewer rules are shadowed."""
-    return outcome._replace(out=asking.without_marks(outcome.out)) if isinstance(outcome, Outcome) else outcome
-
-
-def expect_again(comparison, name, asked, printed, answer):
-    """What was printed, maybe with counters, is given again: the same rules are printed of it. It answers what was
-    given."""
-    tables = tables_of(ruleset_of(asked.text, asked.interfaces))
-    rules = bare(model.answer(asked._replace(counters=None))).out
-    again = asking.asked_again(asked, printed, tables)
-    seen, expected = answer(again), model.answer(again)
-    comparison.expect(f"{name}, given again", asking.printed_again(rules, tables), bare(seen))
-    comparison.expect(f"{name}, given again, with marks", expected, seen)
-    words = asking.without_lines(bare(seen).out) if isinstance(seen, Outcome) else None
-    comparison.expect(f"{name}, given again, numbers and words", asking.without_lines(rules), words)
-    return again
-
-
-def fits(printed):
-    """Whether what was printed may be a ruleset, behind some tables."""
-    return len(printed) < MOST_TEXT
-
-
-def expect_told(comparison, name, asked, expected=None):
-    """The program answers what is expected, by default what the model does, and the same to what it printed."""
-    expected = expected or model.answer(asked)
-    seen = answered(comparison, asked)
-    comparison.expect(name, expected, seen)
-    if expected.status == 0 and seen == expected and fits(seen.out):
-        again = expect_again(comparison, name, asked, seen.out, partial(answered, comparison))
-        counts = ruleset_of(asked.text, asked.interfaces).counts()
-        said = asking.check_again(again.text, *counts)
-        comparison.expect(f"{name}, given to check", said, checked(comparison, again))
-
-
-def expect_told_by_model(comparison, name, asked):
-    """The model answers the same to what it printed."""
-    expected = model.answer(asked)
-    if expected.status == 0 and fits(expected.out):
-        expect_again(comparison, name, asked, expected.out, model.answer)
 
 
 # Answers written by hand
@@ -154,10 +86,10 @@ def command_lines(comparison):
         seen = comparison.execute(["rules", *words], home=folder)
         comparison.expect_refused(f"words {words}", seen, said)
     (folder / RULES).write_bytes(TOGETHER)
-    expected = model.answer(Asked(TOGETHER, TWO, TOGETHER_COUNTERS))
-    for words in lines.good():
+    for words, form in lines.good():
+        expected = model.answer(Asked(TOGETHER, TWO, TOGETHER_COUNTERS, form))
         comparison.expect(f"words {words}", expected, comparison.execute(["rules", *words], home=folder))
-    own = b"<RULES>", b"--counters", b"--also", b"--adapt"
+    own = b"<RULES>", b"--counters", b"--also", b"--adapt", b"--format <text|json>"
     for words, parts in ((("--help",), (b"rules",)), (("rules", "--help"), own), (("help", "rules"), own)):
         comparison.expect_help(words, parts)
 
@@ -172,77 +104,25 @@ def other_commands(comparison):
             seen = comparison.execute([command, comparison.rules, *FITTING, *lines.also(*names)])
             said = Outcome(b"", f"pfreplay: interface twice: {names[-1]}\n".encode(), 1)
             comparison.expect(f"{command} with {names}", said, seen)
-
-
-# Files and outputs
-
-def files(comparison):
-    """Files that aren't there or can't be read."""
-    folder, asked = comparison.folder, Asked(b"pass\n", ONE, b"filter 0 0 0 0\ntotal 0 0 0 0 0\n")
-    words_of(comparison, asked)
-    for name in (folder / "missing", folder / RULES / "below", folder, "."):
-        comparison.expect(f"rules from {name}", cannot_open(name), comparison.execute(["rules", name, *FITTING]))
-        seen = answered(comparison, asked._replace(counters=None), ["--counters", name])
-        comparison.expect(f"counters from {name}", cannot_open(name), seen)
-    nothing = "/dev/null"
-    comparison.expect("no ruleset", Outcome(b"", b"", 0), comparison.execute(["rules", nothing, *FITTING]))
-    comparison.expect("no counters", model.answer(asked._replace(counters=b"")),
-                      answered(comparison, asked._replace(counters=None), ["--counters", nothing]))
-
-
-def outputs(comparison):
-    """A full disk in place of standard output, and a pipe that nobody reads. Where nothing is printed nothing fails."""
-    for name, asked in (("two rules", Asked(TOGETHER, TWO, TOGETHER_COUNTERS)), ("many rules", Asked(MANY)),
-                        ("no rule", Asked(b"set skip on lo0\n")), ("a refused ruleset", Asked(b"scrub\n")),
-                        ("refused counters", Asked(TOGETHER, TWO, b"total 0 0 0 0 0\n"))):
-        answer = model.answer(asked)
-        expected = UNWRITTEN if answer.out else answer
-        with open("/dev/full", "wb") as full:
-            comparison.expect(f"{name} to a full disk", expected, answered(comparison, asked, out=full))
-        with without_reader() as gone:
-            comparison.expect(f"{name} that nobody reads", expected, answered(comparison, asked, out=gone))
-    expect_told(comparison, "many rules", Asked(MANY))
-
-
-def long_rulesets(comparison):
-    """Rulesets of as many rules as there may be. More is printed of them than a text may have."""
-    hosts = addresses(256)
-    pairs = f"pass from {{ {hosts} }} to {{ {hosts} }}\n"
-    counters = "".join(f"filter {number} 0 0 0\n" for number in range(65536)) + "total 0 0 0 0 0\n"
-    for name, text, told_counters in (
-            ("65536 rules", "pass\n" * 65536, None), ("256 by 256 hosts", pairs, None),
-            ("256 by 256 hosts with counters", pairs, counters.encode()),
-            ("16 anchors of two", nested("anchor proto { tcp, udp }", "pass\n"), None),
-            ("256 by 256 hosts, translated", pairs.replace("pass", "no nat"), None)):
-        expect_told(comparison, name, Asked(text.encode(), ONE, told_counters))
-
-
-def faults(comparison):
-    """Each allocation, read and write goes wrong in turn."""
-    counted = Asked(rows_counters.TEXT.encode(), ONE, rows_counters.GOOD.encode())
-    for name, asked in (
-            ("rules of each kind", Asked(OF_EACH_KIND)), ("two interfaces", Asked(TOGETHER, TWO)),
-            ("counters", counted), ("refused counters", counted._replace(counters=counted.counters[:-1])),
-            ("a refused ruleset", Asked(b"pass\npass from nowhere\n")), ("no rule", Asked(b"")),
-            ("some rules", Asked(rules_between(SOME_HOSTS)))):
-        print(f"rules, {name}", flush=True)
-        words = words_of(comparison, asked)
-        comparison.expect(f"{name}, with faults", True, ends_lawfully("rules", [comparison.program, *words]))
+        for form in FORMS:
+            seen = comparison.execute([command, *words, "--format", form])
+            comparison.expect_refused(f"{command} as {form}", seen, (b"--format",))
 
 
 # Drawn rulesets
 
 MARKED = "rules marked as shadowed"
-ENDED = (*kinds.ENDINGS, *cases.KINDS, cases.NO_COUNTERS, cases.RIGHT_COUNTERS, *cases.DAMAGES)
+ENDED = (*kinds.ENDINGS, *cases.KINDS, cases.NO_COUNTERS, cases.RIGHT_COUNTERS, *cases.DAMAGES, *FORMS, *kinds.OF_JSON)
 
 
 def counts_of_case(case):
     """How often each thing comes up in a case, and how many rules are shadowed."""
     expected = model.answer(case.asked)
-    found = {kinds.ending_of(case.asked, expected), case.kind, case.damage}
+    found = {kinds.ending_of(case.asked, expected), case.kind, case.damage, case.asked.form}
     if expected.status == 0:
         found |= kinds.kinds_of(ruleset_of(case.asked.text, case.asked.interfaces), case.asked.interfaces)
-    return Counter(found) + Counter({MARKED: len(asking.marked(expected.out))})
+        found |= {*kinds.of_json(case.asked, expected)}
+    return Counter(found) + Counter({MARKED: len(asking.marked(model.answer(case.asked._replace(form=TEXT)).out))})
 
 
 def told_of_drawn(title, found):
@@ -267,42 +147,42 @@ def drawn_case_by_model(comparison, number):
 
 DECISIONS = ("a rule that counts", "a rule that counts nothing", "a rule that is shadowed", "a translation that counts",
              "a translation that counts nothing")
-IN_RUNS = (*DECISIONS, "runs on several interfaces", "runs that stop early")
+IN_RUNS = (*DECISIONS, "runs on several interfaces", "runs that stop early", *FORMS)
 
 
 def counts_of_run(asked, expected):
-    """How often each thing comes up in what is printed with the counters of a run."""
+    """How often each thing comes up in what is printed as text with the counters of a run, and how it was asked for."""
     if expected.status:
-        return Counter(["runs that stop early"])
+        return Counter(["runs that stop early", asked.form])
     translations = ruleset_of(asked.text, asked.interfaces).counts()[1]
     rules = [line for line in asking.lines_in(expected.out) if line.startswith(b"@")]
     kinds_of_rules = ("a translation", rules[:translations]), ("a rule", rules[translations:])
     found = {f"{kind} that counts{' nothing' if asking.COUNTS_NOTHING.search(line) else ''}"
              for kind, some in kinds_of_rules for line in some}
     found |= {"a rule that is shadowed"} if asking.marked(expected.out) else set()
-    return Counter(found) + Counter({"runs on several interfaces": len(asked.interfaces) > 1})
+    return Counter(found | {asked.form}) + Counter({"runs on several interfaces": len(asked.interfaces) > 1})
 
 
-def expect_run(comparison, case, outcome, expect):
-    """The counters that a run leaves, with its ruleset."""
+def expect_run(comparison, case, outcome, form, expect):
+    """The counters that a run leaves, with its ruleset, printed in some form."""
     counters = outcome and outcome.files.counters
     if counters is None:
         comparison.expect(f"{case.name}: the run", "counters", outcome)
         return Counter()
-    asked = Asked(case.rules, tuple(interface_of(*each) for each in case.interfaces()), counters)
+    asked = Asked(case.rules, tuple(interface_of(*each) for each in case.interfaces()), counters, form)
     comparison.prepare()
     expect(comparison, case.name, asked)
-    return counts_of_run(asked, model.answer(asked))
+    return counts_of_run(asked, model.answer(asked._replace(form=TEXT)))
 
 
 def after_run(comparison, number):
     case = run_at(number)
-    return expect_run(comparison, case, run_of(comparison, case, ALONE), expect_told)
+    return expect_run(comparison, case, run_of(comparison, case, ALONE), cases.form_at(number), expect_told)
 
 
 def after_run_by_model(comparison, number):
     case = run_at(number)
-    return expect_run(comparison, case, runs_model.run(case), expect_told_by_model)
+    return expect_run(comparison, case, runs_model.run(case), cases.form_at(number), expect_told_by_model)
 
 
 # All of it
@@ -325,9 +205,9 @@ def compare(program, drawn=DRAWN, runs=RUNS):
     """The same of the program."""
     results = in_parts(program, {
         "answers written by hand, command lines, files and outputs": (
-            program_rows, program_adapted, command_lines, other_commands, files, outputs),
-        "rulesets of as many rules as there may be": (long_rulesets,),
-        "rulesets and counters with a fault at each call": (faults,)})
+            program_rows, program_adapted, command_lines, other_commands, files.files, files.outputs),
+        "rulesets of as many rules as there may be": (files.long_rulesets,),
+        "rulesets and counters with a fault at each call": (files.faults,)})
     found = in_processes(drawn_case, program, drawn)
     results.append(told_of_drawn("drawn rulesets", found))
     found = in_processes(after_run, program, runs)

@@ -1,11 +1,13 @@
 """What comes up in the rules that are printed, by kinds that are counted, and how the command ends."""
 
+import json
 from collections import Counter
 
 from expansions.hosts import OWN
 from rulesets.parts import MOST_BITS
 from rulesets.tree import ANY, Network, Range
-from telling.model import ACTIONS, PROTOCOL_NAMES, TYPE_NAMES, translations_of
+from telling.model import ANCHOR, JSON, translations_of
+from telling.words import ACTIONS, PROTOCOL_NAMES, TYPE_NAMES
 
 SIGNS = ("=", "!=", "<", "<=", ">", ">=", ":", "><", "<>")
 HOSTS = ("any", "an address", "a network", "a range", "a table", "self", "a negated host")
@@ -18,6 +20,8 @@ TRANSLATION = ("nat", "rdr", "binat", "no", "nat pass and the like", "nat port",
 ANCHORS = ("an anchor", "an anchor in another", "copies of an anchor", "a quick anchor", "an anchor with a direction")
 PLACES = ("several rules of a line", "several interfaces")
 OF_RULES = (*ACTIONS.values(), *CRITERIA, *OPTIONS, *TRANSLATION, *ANCHORS, *PLACES)
+OF_JSON = ("JSON of nat", "JSON of rdr", "JSON of binat", "JSON of filter", "JSON of anchor", "JSON with counters",
+           "JSON of a shadowed rule", "JSON of anchors that begin at one rule", "JSON with a quotation mark")
 ENDINGS = ("told", "told without a rule", "told with counters", "ruleset refused", "counters refused at the first line",
            "counters refused at a later line")
 
@@ -112,6 +116,20 @@ def kinds_of(ruleset, interfaces):
     found |= {kind for each in translations for kind in of_translation(*each)}
     found |= {*of_anchors(rules.anchors), *of_places(rules, translations)}
     return found | ({"several interfaces"} if len(interfaces) > 1 else set())
+
+
+def of_json(asked, expected):
+    """What comes up in the objects that are printed of a ruleset."""
+    if asked.form != JSON:
+        return
+    objects = list(map(json.loads, expected.out.splitlines()))
+    yield from (f"JSON of {each['kind']}" for each in objects)
+    begun = [each["first"] for each in objects if each["kind"] == ANCHOR]
+    held = {"JSON with counters": any(each.get("packets") is not None for each in objects),
+            "JSON of a shadowed rule": any(each.get("shadowed_by") is not None for each in objects),
+            "JSON of anchors that begin at one rule": len(begun) > len(set(begun)),
+            "JSON with a quotation mark": any('"' in each.get("rule", "") for each in objects)}
+    yield from (name for name, is_so in held.items() if is_so)
 
 
 def ending_of(asked, expected):

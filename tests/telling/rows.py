@@ -5,7 +5,7 @@ with 203.0.113.2/24 and em2 with 198.18.0.1/15.
 """
 
 from expansions.hosts import Interface
-from telling import rows_counters, rows_lists, rows_shadows
+from telling import rows_counters, rows_json, rows_lists, rows_shadows
 from telling.row import EM0, EM1, THREE, TWO, alone, fault, told
 
 # Single rules: a text, and what is printed of the rule on its last line
@@ -370,3 +370,4 @@ def rows():
         yield fault(text, said)
     yield from rows_counters.rows()
     yield from rows_shadows.rows()
+    yield from rows_json.rows()

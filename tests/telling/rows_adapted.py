@@ -6,7 +6,9 @@ A line is that of the file. If a rule stands in another file, it is the line on 
 
 from typing import NamedTuple
 
+from telling.model import JSON, TEXT
 from telling.row import ONE, Row, fault
+from telling.rows_json import anchor, numbers_of, rule
 from telling.rows_shadows import MOST_RULES, many_printed, many_rules
 
 
@@ -20,10 +22,12 @@ class Adapted(NamedTuple):
     files: dict
     counters: str | None = None
     said: str = ""
+    form: str = TEXT
 
     def row(self):
         """The row of what is printed or said."""
-        return Row(f"{self.text[:60]!r} with --adapt", self.text, self.printed, ONE, self.counters, self.said)
+        return Row(f"{self.text[:60]!r} with --adapt", self.text, self.printed, ONE, self.counters, self.said,
+                   self.form)
 
 
 def adapted(text, strict, *printed, flags=(), counters=None, **files):
@@ -160,6 +164,24 @@ def shadowed_rows():
         yield adapted(f"scrub in # {count} rules\n{rules}", rules, *many_printed(count, 2))
 
 
+def json_rows():
+    """Lines are those of the file, as in lines of text."""
+    yield adapted("scrub in all\nantispoof for em0\npass out",
+                  "block in on !em0 from em0:network\nblock in from em0\npass out",
+                  rule("filter", 0, 2, "block drop in on ! em0 inet from 192.0.2.0/24 to any"),
+                  rule("filter", 1, 2, "block drop in inet from 192.0.2.1 to any"),
+                  rule("filter", 2, 3, "pass out all keep state"))._replace(form=JSON)
+    yield adapted("scrub in\nblock quick label a label b\nblock", "block quick label a\nblock",
+                  rule("filter", 0, 2, "block drop quick all label \\u0022a\\u0022", numbers_of(5, 5, 140)),
+                  rule("filter", 1, 3, "block drop all", numbers_of(0, 0, 0), 0),
+                  counters="filter 0 5 5 140\nfilter 1 0 0 0\ntotal 5 0 5 0 0\n")._replace(form=JSON)
+    yield included('anchor x\n\nload anchor x from "more"\nblock', "anchor {\npass\npass out\n}\nblock",
+                   anchor("anchor all", 0, 1), rule("filter", 0, 1, "pass all keep state", shadow=2),
+                   rule("filter", 1, 1, "pass out all keep state", shadow=2), rule("filter", 2, 4, "block drop all"),
+                   more="pass\npass out\n")._replace(form=JSON)
+    yield refused("scrub\npass from nowhere", "line 2: left out: host name")._replace(form=JSON)
+
+
 def refused_rows():
     yield refused("scrub\npass from nowhere", "line 2: left out: host name")
     yield refused("block\n\nantispoof for em0\npass to", "line 4: unknown word")
@@ -169,5 +191,6 @@ def refused_rows():
 
 
 def rows():
-    for group in (word_rows, line_rows, surrounded_rows, included_rows, shadowed_rows, refused_rows):
+    for group in (word_rows, line_rows, surrounded_rows, included_rows, shadowed_rows, json_rows,
+                  refused_rows):
         yield from group()
