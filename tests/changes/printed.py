@@ -52,8 +52,8 @@ class Cause(NamedTuple):
 
 
 class Pair(NamedTuple):
-    """The first of the packets that come to two decisions, how many there are, of how many flows, and how many of them
-    follow."""
+    """The line of a pair of decisions: the first packet that comes to it, the number of its packets and of their flows,
+    and the number of packets that follow a cause."""
     change: Change
     packets: int
     flows: int

@@ -115,6 +115,13 @@ def on_two_interfaces():
 
 # Orders
 
+def let_in_first(name, old, new, let_in, other):
+    """A segment and then a datagram, which is newly let in and stands first, with what each comes to."""
+    return row(name, old, new, [KNOCK, CAME], f"{FLOW_CAME}  {let_in}  1 packet, first 2",
+               f"{FLOW_KNOCK}  {other}  1 packet, first 1", f"{let_in}: 1 packet in 1 flow",
+               f"{other}: 1 packet in 1 flow", "2 of 2 packets change: 2 causes")
+
+
 def orders():
     yield row("what is newly let in comes first", BASE, "block out\npass in", [ASKED, CAME, SECOND, KNOCK],
               f"{FLOW_CAME}  block L1 -> pass L2  1 packet, first 2",
@@ -122,20 +129,12 @@ def orders():
               f"{FLOW_OUT}  pass L2 -> block L1  1 packet, first 1",
               f"{FLOW_SECOND}  pass L2 -> block L1  1 packet, first 3", "block L1 -> pass L2: 2 packets in 2 flows",
               "pass L2 -> block L1: 2 packets in 2 flows", "4 of 4 packets change: 4 causes")
-    yield row("what is answered no more is newly let in", "block return in\npass in proto tcp",
-              "pass in\nblock return in proto tcp", [KNOCK, CAME],
-              f"{FLOW_CAME}  return L1 -> pass L1  1 packet, first 2",
-              f"{FLOW_KNOCK}  pass L2 -> return L2  1 packet, first 1", "return L1 -> pass L1: 1 packet in 1 flow",
-              "pass L2 -> return L2: 1 packet in 1 flow", "2 of 2 packets change: 2 causes")
-    yield row("what is answered now isn't let in", "block in", "block return in\npass in proto udp", [KNOCK, CAME],
-              f"{FLOW_CAME}  block L1 -> pass L2  1 packet, first 2",
-              f"{FLOW_KNOCK}  block L1 -> return L1  1 packet, first 1", "block L1 -> pass L2: 1 packet in 1 flow",
-              "block L1 -> return L1: 1 packet in 1 flow", "2 of 2 packets change: 2 causes")
-    yield row("what passes by another rule isn't newly let in", "pass in proto tcp\nblock in proto udp",
-              "pass in proto tcp allow-opts\npass in proto udp", [KNOCK, CAME],
-              f"{FLOW_CAME}  block L2 -> pass L2  1 packet, first 2",
-              f"{FLOW_KNOCK}  pass L1 -> pass L1  1 packet, first 1", "block L2 -> pass L2: 1 packet in 1 flow",
-              "pass L1 -> pass L1: 1 packet in 1 flow", "2 of 2 packets change: 2 causes")
+    yield let_in_first("what is answered no more is newly let in", "block return in\npass in proto tcp",
+                       "pass in\nblock return in proto tcp", "return L1 -> pass L1", "pass L2 -> return L2")
+    yield let_in_first("what is answered now isn't let in", "block in", "block return in\npass in proto udp",
+                       "block L1 -> pass L2", "block L1 -> return L1")
+    yield let_in_first("what passes by another rule isn't newly let in", "pass in proto tcp\nblock in proto udp",
+                       "pass in proto tcp allow-opts\npass in proto udp", "block L2 -> pass L2", "pass L1 -> pass L1")
 
 
 def rows():
